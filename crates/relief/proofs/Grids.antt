@@ -1,0 +1,150 @@
+-- The marked grids follow from the definitions: the survey, run on each of them, gives what the table says.
+--     plane-terrain      a grid of heights, with plane touching, is a terrain
+--     agrees x           the survey of an example gives what the table says, by a test
+--     follows            and then the example is as the definitions say
+--     marked-follow      the whole table, by one computation
+-- Assumes nothing.
+use mathlib.Core.Path.{_≡_, refl, sym, _∙_, ap, subst}
+use mathlib.Core.Bool.{Bool, true, false, not}
+use mathlib.Core.List.{List, [], _∷_}
+use Prim.Native.Nat.{ℕ, zero, suc, _+_, _-_, _*_, _≤_}
+use native.Mathlib.Omega.{arith}
+use lib.Dec.{T, eqb}
+use lib.IntN.{ℤ}
+use lib.ListN.{length, take, getD, List·getD-eq-default}
+use borrow.Author.Tests.{eqb-true}
+use Rattle.relief.specs.Heights.{BLANK, levelOf, levels}
+use Rattle.relief.specs.Peaks.{Key, missing, key, Entry}
+use Rattle.relief.specs.Lists.{ListOf}
+use Rattle.relief.specs.Runs.{Batch, Rest}
+use Rattle.relief.specs.Plane.{Plane, stageOf}
+use Rattle.relief.specs.Grids.{Example, grid, run, HandedOut, Follows, Each, marked}
+use Rattle.relief.proofs.Deciding.{split, true-not-false, both}
+use Rattle.relief.proofs.Peaking.{Terrain, flat?}
+use Rattle.relief.proofs.Surveying.{
+  peak?,
+  better?,
+  joined?,
+  keyLevel,
+  entryAt,
+  closed?,
+  listed?,
+  survey,
+  surveyRest,
+  surveyBatch,
+  survey-list,
+  survey-rest,
+  survey-batch,
+}
+use Rattle.relief.proofs.Plane.{plane?, plane-decides, plane-symmetric}
+
+pub levels-end : (heights : List ℤ) (c : ℕ) → length heights ≤ c → levels heights c ≡ 0
+unfolding levels levelOf
+levels-end heights c h = ap levelOf (List·getD-eq-default heights BLANK h)
+
+pub plane-terrain : (rows : ℕ) (heights : List ℤ) → Terrain (Plane rows) (plane? rows) (levels heights) (length heights)
+plane-terrain rows heights = record {
+  symmetric = plane-symmetric rows;
+  decides = plane-decides rows;
+  ends = levels-end heights;
+}
+
+-- ---- tests of equality
+
+abbrev sameKey : Key → Key → Bool
+sameKey missing missing = true
+sameKey missing (key k c) = false
+sameKey (key k c) missing = false
+sameKey (key k c) (key k′ c′) = both (eqb k k′) (eqb c c′)
+
+abbrev same : List Entry → List Entry → Bool
+same [] [] = true
+same [] (y ∷ m) = false
+same (x ∷ l) [] = false
+same (x ∷ l) (y ∷ m) =
+    both (both (eqb (x .cell) (y .cell)) (both (eqb (x .level) (y .level)) (sameKey (x .key) (y .key)))) (same l m)
+
+both-holds : (a b : Bool) → both a b ≡ true → (a ≡ true) × (b ≡ true)
+both-holds true b e = (refl, e)
+both-holds false b e = true-not-false e refl
+
+sameKey-equal : (k k′ : Key) → sameKey k k′ ≡ true → k ≡ k′
+sameKey-equal missing missing e = refl
+sameKey-equal missing (key k c) e = true-not-false e refl
+sameKey-equal (key k c) missing e = true-not-false e refl
+sameKey-equal (key k c) (key k′ c′) e =
+    let (h, i) = both-holds (eqb k k′) (eqb c c′) e in
+    let p = eqb-true k k′ h in
+    let q = eqb-true c c′ i in
+    cc
+
+same-equal : (l m : List Entry) → same l m ≡ true → l ≡ m
+same-equal [] [] e = refl
+same-equal [] (y ∷ m) e = true-not-false e refl
+same-equal (x ∷ l) [] e = true-not-false e refl
+same-equal (x ∷ l) (y ∷ m) e =
+    let (h, i) = both-holds _ (same l m) e in
+    let (a, b) = both-holds (eqb (x .cell) (y .cell)) _ h in
+    let (c, d) = both-holds (eqb (x .level) (y .level)) (sameKey (x .key) (y .key)) b in
+    let p = eqb-true (x .cell) (y .cell) a in
+    let q = eqb-true (x .level) (y .level) c in
+    let r = sameKey-equal (x .key) (y .key) d in
+    let s : x ≡ y = λ i. record { cell = p i; level = q i; key = r i } in
+    let t : l ≡ m = same-equal l m i in
+    cc
+
+-- ---- the test of an example
+
+abbrev agreesFrom : ℕ → ℕ → List ℤ → ℕ → List (List Entry) → List Entry → Bool
+agreesFrom rows T heights j [] rest =
+    let hs = take (j * rows) heights in
+    both (eqb (j * rows) (length heights)) (same (surveyRest (plane? rows) (levels hs) (length hs) (j * rows - rows) T) rest)
+agreesFrom rows T heights j (batch ∷ batches) rest =
+    let hs = take (j * rows) heights in
+    let hs′ = take (suc j * rows) heights in
+    both
+    (same
+    (surveyBatch (plane? rows) (levels hs) (length hs) (j * rows - rows) (levels hs′) (length hs′) (suc j * rows - rows) T) batch)
+    (agreesFrom rows T heights (suc j) batches rest)
+
+abbrev agrees : Example → Bool
+agrees (grid rows T heights list) = same (survey (plane? rows) (levels heights) (length heights) T) list
+agrees (run rows T heights batches rest) = agreesFrom rows T heights 0 batches rest
+
+abbrev all : List Example → Bool
+all [] = true
+all (x ∷ xs) = both (agrees x) (all xs)
+
+follows-from : (rows T : ℕ) (heights : List ℤ) (j : ℕ) (batches : List (List Entry)) (rest : List Entry)
+    → agreesFrom rows T heights j batches rest ≡ true → HandedOut rows T heights j batches rest
+follows-from rows T heights j [] rest e =
+    let hs = take (j * rows) heights in
+    let (h, i) = both-holds (eqb (j * rows) (length heights)) _ e in (
+      eqb-true (j * rows) (length heights) h,
+      subst (Rest (Plane rows) (stageOf rows j heights) T) (same-equal _ rest i)
+          (survey-rest (plane-terrain rows hs) (j * rows - rows) T),
+    )
+follows-from rows T heights j (batch ∷ batches) rest e =
+    let hs = take (j * rows) heights in
+    let hs′ = take (suc j * rows) heights in
+    let (h, i) = both-holds _ (agreesFrom rows T heights (suc j) batches rest) e in (
+      subst (Batch (Plane rows) (stageOf rows j heights) (stageOf rows (suc j) heights) T) (same-equal _ batch h)
+          (survey-batch (plane-terrain rows hs) (plane-terrain rows hs′) (j * rows - rows) (suc j * rows - rows) T),
+      follows-from rows T heights (suc j) batches rest i,
+    )
+
+follows : (x : Example) → agrees x ≡ true → Follows x
+follows (grid rows T heights list) e =
+    subst (ListOf (Plane rows) (levels heights) T) (same-equal _ list e) (survey-list (plane-terrain rows heights) T)
+follows (run rows T heights batches rest) e = follows-from rows T heights 0 batches rest e
+
+each-follows : (xs : List Example) → all xs ≡ true → Each Follows xs
+each-follows [] e = tt
+each-follows (x ∷ xs) e = let (h, i) = both-holds (agrees x) (all xs) e in (follows x h, each-follows xs i)
+
+pub marked-follow : Each Follows marked
+unfolding marked levels levelOf peak? better? joined? keyLevel entryAt closed? listed? survey surveyRest surveyBatch
+marked-follow = each-follows marked agree
+  where
+    agree : all marked ≡ true
+    agree = refl

@@ -1,0 +1,10 @@
+pub mod Deciding
+pub mod Ways
+pub mod Reaching
+pub mod Peaking
+pub mod Keys
+pub mod Listing
+pub mod Surveying
+pub mod Plane
+pub mod Grids
+pub mod Claims

@@ -1,0 +1,1 @@
+// Paths, flats, peaks, outranking ground, key heights, islands, passes and closing: definitions and mathematics, no code.
