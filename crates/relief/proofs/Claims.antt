@@ -6,12 +6,13 @@ use mathlib.Core.Path.{_≡_, refl}
 use mathlib.Core.Bool.{Bool, true, false}
 use mathlib.Core.List.{List}
 use mathlib.Core.Logic.{_⊎_, inl, inr}
-use Prim.Native.Nat.{ℕ, _≤_, _<_}
+use Prim.Native.Nat.{ℕ, suc, _≤_, _<_}
 use native.Mathlib.Nat.{mod-lt}
 use native.Mathlib.Omega.{arith}
 use Rattle.relief.specs.Paths.{Way, alone, least}
 use Rattle.relief.specs.Peaks.{Key, missing, key, Entry, Wanted, KeyOf, Listed}
-use Rattle.relief.specs.Lists.{InReadingOrder, ListOf}
+use Rattle.relief.specs.Lists.{Member, InReadingOrder, ListOf}
+use Rattle.relief.specs.Runs.{Closed}
 use Rattle.relief.specs.Claims.{
   Ground,
   PlaceNumber,
@@ -24,6 +25,10 @@ use Rattle.relief.specs.Claims.{
   KeyAccount,
   IslandBounded,
   PassExists,
+  ClosedExactly,
+  OpenCanChange,
+  Extended,
+  Handing,
   ListExists,
   ZeroListsOne,
   Claims,
@@ -35,7 +40,11 @@ use Rattle.relief.proofs.Peaking.{Terrain, land-below, climb}
 use Rattle.relief.proofs.Keys as Keys
 use Rattle.relief.proofs.Listing as Listing
 use Rattle.relief.proofs.Surveying.{peak-key, survey, survey-list}
+use Rattle.relief.proofs.Batching.{Staged}
+use Rattle.relief.proofs.Closing as Closing
+use Rattle.relief.proofs.Growing as Growing
 use Rattle.relief.proofs.Plane as Plane
+use Rattle.relief.proofs.PlaneRun.{plane-growing, heightOf, heightOf-level, plane-open}
 use Rattle.relief.proofs.Grids.{marked-follow}
 
 abbrev isYes : {A : Type 0} → Dec A → Bool
@@ -130,6 +139,46 @@ zero-lists-one g l = (up, down)
       complete = λ e m. h .complete e (at-least-one e m);
     }
 
+-- ---- a growing run
+
+closed-exactly : ClosedExactly
+closed-exactly touch s e h = (λ c x l w. c .away x w l, λ f. record { right = h; away = λ c w l. f c l w })
+
+module _ (x : Extended) where
+  before-staged : Staged (x .touch) (λ a b. isYes (x .told a b)) (x .before)
+  before-staged = record { symmetric = x .symmetric; decides = λ a b. yes-decides (x .told a b); ends = x .ends }
+
+  after-staged : Staged (x .touch) (λ a b. isYes (x .told a b)) (x .after)
+  after-staged = record { symmetric = x .symmetric; decides = λ a b. yes-decides (x .told a b); ends = x .ends-after }
+
+  stays : (e : Entry) → Closed (x .touch) (x .before) e → Closed (x .touch) (x .after) e
+  stays = Closing.closed-stays before-staged after-staged (x .fence) (x .further)
+
+open-can-change : OpenCanChange
+open-can-change rows columns heights e whole o l =
+    let (h, m) = heightOf-level (suc (e .level)) (omega arith) in (
+      heightOf (suc (e .level)),
+      m,
+      omega arith,
+      plane-open rows columns heights whole (heightOf (suc (e .level))) e o (omega arith),
+    )
+
+module _ (r : Handing) where
+  told : (a b : ℕ) → Decides (r .touch a b) (isYes (r .told a b))
+  told a b = yes-decides (r .told a b)
+
+  hold : (l : List Entry) → ListOf (r .touch) (r .stage (r .columns) .level) (r .threshold) l → (e : Entry)
+      → (Member e l → ((j : ℕ) × (j < r .columns) × Member e (r .batch j)) ⊎ Member e (r .rest))
+      × (((j : ℕ) × (j < r .columns) × Member e (r .batch j)) ⊎ Member e (r .rest) → Member e l)
+  hold l h = Growing.batches-hold (r .symmetric) told (r .grows) (r .threshold) (r .batch) (r .columns) (r .rest) l (r .batches) (r .ended) h
+
+  once : (i j : ℕ) (e e′ : Entry) → i < j → j < r .columns → Member e (r .batch i) → Member e′ (r .batch j)
+      → e .cell ≡ e′ .cell → ⊥
+  once i j e e′ = Growing.batches-once (r .symmetric) told (r .grows) (r .threshold) (r .batch) (r .columns) i j e e′ (r .batches)
+
+  last : (i : ℕ) (e e′ : Entry) → i < r .columns → Member e (r .batch i) → Member e′ (r .rest) → e .cell ≡ e′ .cell → ⊥
+  last i e e′ = Growing.rest-once (r .symmetric) told (r .grows) (r .threshold) (r .batch) (r .columns) i e e′ (r .rest) (r .batches) (r .ended)
+
 pub claims : Claims
 claims = record {
   place-number = place-number;
@@ -152,5 +201,13 @@ claims = record {
   order-unique = λ P l m h h′. Listing.order-unique l m h h′;
   list-exists = list-exists;
   zero-lists-one = zero-lists-one;
+  closed-exactly = closed-exactly;
+  closed-stays = stays;
+  closed-island = λ x e h c. Closing.closed-island (before-staged x) (after-staged x) (x .fence) (x .further) e h c;
+  open-can-change = open-can-change;
+  plane-grows = plane-growing;
+  batches-hold = hold;
+  batches-once = once;
+  rest-once = last;
   marked-follow = marked-follow;
 }

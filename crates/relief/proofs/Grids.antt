@@ -11,7 +11,7 @@ use Prim.Native.Nat.{ℕ, zero, suc, _+_, _-_, _*_, _≤_}
 use native.Mathlib.Omega.{arith}
 use lib.Dec.{T, eqb}
 use lib.IntN.{ℤ}
-use lib.ListN.{length, take, getD, List·getD-eq-default}
+use lib.ListN.{length, take, getD, length-take, List·getD-eq-default}
 use borrow.Author.Tests.{eqb-true}
 use Rattle.relief.specs.Heights.{BLANK, levelOf, levels}
 use Rattle.relief.specs.Peaks.{Key, missing, key, Entry}
@@ -21,21 +21,8 @@ use Rattle.relief.specs.Plane.{Plane, stageOf}
 use Rattle.relief.specs.Grids.{Example, grid, run, HandedOut, Follows, Each, marked}
 use Rattle.relief.proofs.Deciding.{split, true-not-false, both}
 use Rattle.relief.proofs.Peaking.{Terrain, flat?}
-use Rattle.relief.proofs.Surveying.{
-  peak?,
-  better?,
-  joined?,
-  keyLevel,
-  entryAt,
-  closed?,
-  listed?,
-  survey,
-  surveyRest,
-  surveyBatch,
-  survey-list,
-  survey-rest,
-  survey-batch,
-}
+use Rattle.relief.proofs.Surveying.{peak?, better?, joined?, keyLevel, entryAt, listed?, survey, survey-list}
+use Rattle.relief.proofs.Batching.{Staged, closed?, surveyRest, surveyBatch, survey-rest, survey-batch}
 use Rattle.relief.proofs.Plane.{plane?, plane-decides, plane-symmetric}
 
 pub levels-end : (heights : List ℤ) (c : ℕ) → length heights ≤ c → levels heights c ≡ 0
@@ -47,6 +34,14 @@ plane-terrain rows heights = record {
   symmetric = plane-symmetric rows;
   decides = plane-decides rows;
   ends = levels-end heights;
+}
+
+pub plane-staged : (rows columns : ℕ) (heights : List ℤ) → Staged (Plane rows) (plane? rows) (stageOf rows columns heights)
+plane-staged rows columns heights = record {
+  symmetric = plane-symmetric rows;
+  decides = plane-decides rows;
+  ends = λ c h. levels-end (take (columns * rows) heights) c
+      (let l = length-take (columns * rows) heights in omega arith);
 }
 
 -- ---- tests of equality
@@ -97,14 +92,9 @@ same-equal (x ∷ l) (y ∷ m) e =
 
 abbrev agreesFrom : ℕ → ℕ → List ℤ → ℕ → List (List Entry) → List Entry → Bool
 agreesFrom rows T heights j [] rest =
-    let hs = take (j * rows) heights in
-    both (eqb (j * rows) (length heights)) (same (surveyRest (plane? rows) (levels hs) (length hs) (j * rows - rows) T) rest)
+    both (eqb (j * rows) (length heights)) (same (surveyRest (plane? rows) (stageOf rows j heights) T) rest)
 agreesFrom rows T heights j (batch ∷ batches) rest =
-    let hs = take (j * rows) heights in
-    let hs′ = take (suc j * rows) heights in
-    both
-    (same
-    (surveyBatch (plane? rows) (levels hs) (length hs) (j * rows - rows) (levels hs′) (length hs′) (suc j * rows - rows) T) batch)
+    both (same (surveyBatch (plane? rows) (stageOf rows j heights) (stageOf rows (suc j) heights) T) batch)
     (agreesFrom rows T heights (suc j) batches rest)
 
 abbrev agrees : Example → Bool
@@ -118,18 +108,14 @@ all (x ∷ xs) = both (agrees x) (all xs)
 follows-from : (rows T : ℕ) (heights : List ℤ) (j : ℕ) (batches : List (List Entry)) (rest : List Entry)
     → agreesFrom rows T heights j batches rest ≡ true → HandedOut rows T heights j batches rest
 follows-from rows T heights j [] rest e =
-    let hs = take (j * rows) heights in
     let (h, i) = both-holds (eqb (j * rows) (length heights)) _ e in (
       eqb-true (j * rows) (length heights) h,
-      subst (Rest (Plane rows) (stageOf rows j heights) T) (same-equal _ rest i)
-          (survey-rest (plane-terrain rows hs) (j * rows - rows) T),
+      subst (Rest (Plane rows) (stageOf rows j heights) T) (same-equal _ rest i) (survey-rest (plane-staged rows j heights) T),
     )
 follows-from rows T heights j (batch ∷ batches) rest e =
-    let hs = take (j * rows) heights in
-    let hs′ = take (suc j * rows) heights in
     let (h, i) = both-holds _ (agreesFrom rows T heights (suc j) batches rest) e in (
       subst (Batch (Plane rows) (stageOf rows j heights) (stageOf rows (suc j) heights) T) (same-equal _ batch h)
-          (survey-batch (plane-terrain rows hs) (plane-terrain rows hs′) (j * rows - rows) (suc j * rows - rows) T),
+          (survey-batch (plane-staged rows j heights) (plane-staged rows (suc j) heights) T),
       follows-from rows T heights (suc j) batches rest i,
     )
 

@@ -5,6 +5,10 @@ pub mod Peaking
 pub mod Keys
 pub mod Listing
 pub mod Surveying
+pub mod Batching
+pub mod Closing
+pub mod Growing
+pub mod PlaneRun
 pub mod Plane
 pub mod Grids
 pub mod Claims

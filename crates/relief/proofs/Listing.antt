@@ -1,5 +1,6 @@
 -- Lists in reading order: two that hold the same entries are equal, and a test at every cell makes one.
 --     entry-unique      a peak has one entry
+--     entry-floor, entry-best    its key height is below it, and nothing on its island is better
 --     order-unique      two lists in reading order of the same entries are equal
 --     collect           the entries of the cells that pass a test, in reading order
 --     collect-order     and that they are a list in reading order
@@ -11,10 +12,19 @@ use mathlib.Core.Logic.{_⊎_, inl, inr}
 use Prim.Native.Nat.{ℕ, zero, suc, _+_, _≤_, _<_, zero-le}
 use native.Mathlib.Nat.{le-antisymm}
 use native.Mathlib.Omega.{arith}
-use Rattle.relief.specs.Peaks.{Key, missing, key, Entry, KeyOf, PeakEntry, NoKey, KeyHeight, PassCell}
+use Rattle.relief.specs.Peaks.{Key, missing, key, Entry, floorOf, KeyOf, PeakEntry, NoKey, KeyHeight, PassCell}
 use Rattle.relief.specs.Lists.{Member, Rising, InReadingOrder}
 use Rattle.relief.proofs.Deciding.{split, Decides, below-suc}
-use Rattle.relief.proofs.Keys.{key-unique, key-exclusive, pass-unique}
+use Rattle.relief.proofs.Peaking.{Terrain}
+use Rattle.relief.proofs.Keys.{
+  key-unique,
+  key-exclusive,
+  pass-unique,
+  key-below,
+  Best,
+  best-of-key,
+  best-of-none,
+}
 
 -- ---- a peak has one entry
 
@@ -36,6 +46,21 @@ module _ {touch : ℕ → ℕ → Type 0} {level : ℕ → ℕ} where
       keyOf-unique touch level (e .cell) (e .key) (e′ .key) (h .keyed)
       (subst (λ (c : ℕ). KeyOf touch level c (e′ .key)) (sym s) (h′ .keyed)) in
       λ i. record { cell = s i; level = l i; key = k i }
+
+module _ {touch : ℕ → ℕ → Type 0} {touch? : ℕ → ℕ → Bool} {level : ℕ → ℕ} {n : ℕ} (t : Terrain touch touch? level n) where
+  pub entry-floor : (e : Entry) → PeakEntry touch level e → floorOf (e .key) < level (e .cell)
+  entry-floor e h = go (e .key) (h .keyed)
+    where
+      go : (k : Key) → KeyOf touch level (e .cell) k → floorOf k < level (e .cell)
+      go missing n = h .peak .land
+      go (key k c) n = key-below (t .symmetric) (h .peak) (n .0)
+
+  pub entry-best : (e : Entry) → PeakEntry touch level e → Best touch level (floorOf (e .key)) (e .cell)
+  entry-best e h = go (e .key) (h .keyed)
+    where
+      go : (k : Key) → KeyOf touch level (e .cell) k → Best touch level (floorOf k) (e .cell)
+      go missing n = best-of-none t (h .peak) n
+      go (key k c) n = best-of-key t (h .peak) (n .0)
 
 -- ---- two lists of the same entries
 

@@ -1,8 +1,7 @@
 -- The survey: a computing twin of the definitions, cell by cell, and that it tells what they say.
 --     peak?         p is a peak's cell                  keyLevel     the key height of the peak p, or 0
 --     entryAt       the entry of the peak p             wanted?      it is listed at T
---     closed?       the peak p is closed
---     survey        the list of a grid;  surveyBatch, surveyRest    what a column call and End hand out
+--     survey        the list of a grid
 -- The key height of a peak is the greatest level of a cell at or above which a better cell is reached: on an island above
 -- it there is none, since the least level of a way to it would be greater. Assumes nothing.
 use mathlib.Core.Path.{_≡_, refl, sym, _∙_, ap, subst}
@@ -15,7 +14,6 @@ use lib.Dec.{eqb, leb, ltb}
 use Rattle.relief.specs.Paths.{Way, alone, least}
 use Rattle.relief.specs.Peaks.{Flat, Peak, Island, Key, missing, key, Entry, floorOf, Wanted, KeyOf, PeakEntry, Listed, KeyHeight, NoKey}
 use Rattle.relief.specs.Lists.{InReadingOrder, ListOf}
-use Rattle.relief.specs.Runs.{Stage, Closed, Open, Closing, Batch, Remaining, Rest}
 use Rattle.relief.proofs.Deciding.{
   split,
   Decides,
@@ -94,10 +92,6 @@ module _ (touch? : ℕ → ℕ → Bool) (level : ℕ → ℕ) (n : ℕ) where
   unfoldable pub entryAt : ℕ → Entry
   entryAt x = record { cell = x; level = level x; key = keyFrom (pass touch? level n x) (keyLevel x) }
 
-  unfoldable pub closed? : ℕ → ℕ → Bool
-  closed? newest x =
-      both (peak? x) (allBelow n (λ c. implies (island? touch? level n x (floorOf (entryAt x .key)) c) (ltb c newest)))
-
   abbrev wantedKey : ℕ → ℕ → Key → Bool
   wantedKey T height missing = true
   wantedKey T height (key k c) = leb T (height - k)
@@ -108,18 +102,9 @@ module _ (touch? : ℕ → ℕ → Bool) (level : ℕ → ℕ) (n : ℕ) where
   unfoldable pub survey : ℕ → List Entry
   survey T = collect n 0 (listed? T) entryAt
 
-  unfoldable pub surveyRest : ℕ → ℕ → List Entry
-  surveyRest newest T = collect n 0 (λ x. both (listed? T x) (not (closed? newest x))) entryAt
-
-unfoldable pub surveyBatch : (ℕ → ℕ → Bool) → (ℕ → ℕ) → ℕ → ℕ → (ℕ → ℕ) → ℕ → ℕ → ℕ → List Entry
-surveyBatch touch? level n newest level′ n′ newest′ T =
-    collect n′ 0
-    (λ x. both (listed? touch? level′ n′ T x) (both (closed? touch? level′ n′ newest′ x) (not (closed? touch? level n newest x))))
-    (entryAt touch? level′ n′)
-
 -- ---- what they tell
 
-implies-decides : {A B : Type 0} {a b : Bool} → Decides A a → (A → Decides B b) → Decides (A → B) (implies a b)
+pub implies-decides : {A B : Type 0} {a b : Bool} → Decides A a → (A → Decides B b) → Decides (A → B) (implies a b)
 implies-decides {a = true} p q = let d = q (p .holds refl) in record {
   holds = λ e h. d .holds e;
   fails = λ e f. d .fails e (f (p .holds refl));
@@ -246,7 +231,7 @@ module _ {touch : ℕ → ℕ → Type 0} {touch? : ℕ → ℕ → Bool} {level
   wanted-decides T height missing = record { holds = λ e. tt; fails = λ e. true-not-false refl e }
   wanted-decides T height (key k c) = le-decides T (height - k)
 
-  listed-decides : (T x : ℕ) → Decides (Listed touch level T (entryAt touch? level n x)) (listed? touch? level n T x)
+  pub listed-decides : (T x : ℕ) → Decides (Listed touch level T (entryAt touch? level n x)) (listed? touch? level n T x)
   unfolding listed? entryAt
   listed-decides T x =
       decides-iff
@@ -259,60 +244,3 @@ module _ {touch : ℕ → ℕ → Type 0} {touch? : ℕ → ℕ → Bool} {level
   survey-list T =
       collect-order (Listed touch level T) (listed? touch? level n T) (entryAt touch? level n) (λ i. refl) (listed-decides T)
       (λ e h. entryAt-only e (h .right)) n (λ e h. land-below t (e .cell) (h .right .peak .land))
-
-  -- ---- closing
-
-  closed-decides : (newest x : ℕ)
-      → Decides (Closed touch (record { level = level; newest = newest }) (entryAt touch? level n x)) (closed? touch? level n newest x)
-  unfolding closed? entryAt
-  closed-decides newest x =
-      decides-iff
-      (λ h. record { right = entryAt-right x (h .0); away = λ c w l. let m = h .1 c (land-below t c (let i = way-end w in omega arith)) w in omega arith })
-      (λ h. (h .right .peak, λ c l w. split (le-or-lt newest c) (λ m. absurd (h .away c w m)) (λ m. m)))
-      (both-decides (peak-decides x)
-      (all-decides (λ c. implies-decides (island-decides t x (floorOf (entryAt touch? level n x .key)) c) (λ w. lt-decides c newest)) n))
-
-  pub survey-rest : (newest T : ℕ) → Rest touch (record { level = level; newest = newest }) T (surveyRest touch? level n newest T)
-  unfolding surveyRest entryAt
-  survey-rest newest T =
-      collect-order (Remaining touch (record { level = level; newest = newest }) T)
-      (λ x. both (listed? touch? level n T x) (not (closed? touch? level n newest x)))
-      (entryAt touch? level n) (λ i. refl) told (λ e h. entryAt-only e (h .listed .right)) n
-      (λ e h. land-below t (e .cell) (h .listed .right .peak .land))
-    where
-      told : (x : ℕ)
-          → Decides (Remaining touch (record { level = level; newest = newest }) T (entryAt touch? level n x))
-          (both (listed? touch? level n T x) (not (closed? touch? level n newest x)))
-      told x =
-          decides-iff
-          (λ h. record { listed = h .0; still = record { right = h .0 .right; unclosed = h .1 } })
-          (λ h. (h .listed, h .still .unclosed))
-          (both-decides (listed-decides T x) (not-decides (closed-decides newest x)))
-
-module _ {touch : ℕ → ℕ → Type 0} {touch? : ℕ → ℕ → Bool} {level level′ : ℕ → ℕ} {n n′ : ℕ}
-    (t : Terrain touch touch? level n) (t′ : Terrain touch touch? level′ n′) where
-  pub survey-batch : (newest newest′ T : ℕ)
-      → Batch touch (record { level = level; newest = newest }) (record { level = level′; newest = newest′ }) T
-      (surveyBatch touch? level n newest level′ n′ newest′ T)
-  unfolding surveyBatch entryAt
-  survey-batch newest newest′ T =
-      collect-order (Closing touch (record { level = level; newest = newest }) (record { level = level′; newest = newest′ }) T)
-      (λ x. both (listed? touch? level′ n′ T x) (both (closed? touch? level′ n′ newest′ x) (not (closed? touch? level n newest x))))
-      (entryAt touch? level′ n′) (λ i. refl) told (λ e h. entryAt-only t′ e (h .listed .right)) n′
-      (λ e h. land-below t′ (e .cell) (h .listed .right .peak .land))
-    where
-      told : (x : ℕ)
-          → Decides
-          (Closing touch (record { level = level; newest = newest }) (record { level = level′; newest = newest′ }) T (entryAt touch? level′ n′ x))
-          (both (listed? touch? level′ n′ T x) (both (closed? touch? level′ n′ newest′ x) (not (closed? touch? level n newest x))))
-      told x =
-          decides-iff
-          (λ h. record {
-            listed = h .0;
-            closed = h .1 .0;
-            unclosed = λ d e c. h .1 .1
-                (subst (Closed touch (record { level = level; newest = newest }))
-                (entryAt-only t d (c .right) ∙ ap (entryAt touch? level n) e) c);
-          })
-          (λ h. (h .listed, (h .closed, λ c. h .unclosed (entryAt touch? level n x) refl c)))
-          (both-decides (listed-decides t′ T x) (both-decides (closed-decides t′ newest′ x) (not-decides (closed-decides t newest x))))

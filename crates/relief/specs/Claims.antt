@@ -1,11 +1,17 @@
 -- What is claimed of the definitions, beyond any code.
 --     Ground          a finite grid with a symmetric way of touching that a test tells
+--     Extended        a run, and the same with further columns
+--     Handing         a run from its start with what was handed out of it
 --     Claims          all claims of this crate; `proofs/Claims.antt` has a proof of each
 -- Assumes nothing.
 use mathlib.Core.Path.{_≡_}
-use mathlib.Core.List.{List}
+use mathlib.Core.List.{List, _++_}
 use mathlib.Core.Logic.{_⊎_, _↔_}
-use Prim.Native.Nat.{ℕ, _+_, _-_, _*_, _≤_, _<_}
+use Prim.Native.Nat.{ℕ, suc, _+_, _-_, _*_, _≤_, _<_}
+use lib.IntN.{ℤ}
+use lib.ListN.{length, replicate}
+use lib.Signed.{mag}
+use Rattle.relief.specs.Heights.{levelOf}
 use Rattle.relief.specs.Paths.{Way, Path, least}
 use Rattle.relief.specs.Peaks.{
   Peak,
@@ -15,11 +21,13 @@ use Rattle.relief.specs.Peaks.{
   Island,
   PassCell,
   Entry,
+  floorOf,
   prominence,
   PeakEntry,
 }
-use Rattle.relief.specs.Lists.{InReadingOrder, ListOf}
-use Rattle.relief.specs.Plane.{rowOf, columnOf, Plane}
+use Rattle.relief.specs.Lists.{Member, InReadingOrder, ListOf}
+use Rattle.relief.specs.Runs.{Stage, Further, Closed, Open, KeyKept, Batch, Rest, Growing}
+use Rattle.relief.specs.Plane.{rowOf, columnOf, Plane, stageOf}
 use Rattle.relief.specs.Grids.{Follows, Each, marked}
 
 pub record Ground : Type 1 where
@@ -29,6 +37,32 @@ pub record Ground : Type 1 where
   pub symmetric : (a b : ℕ) → touch a b → touch b a
   pub told : (a b : ℕ) → Dec (touch a b)
   pub ends : (c : ℕ) → cells ≤ c → level c ≡ 0
+
+-- A run and the same run with further columns; behind the fence nothing reaches what is still to come.
+pub record Extended : Type 1 where
+  pub touch : ℕ → ℕ → Type 0
+  pub before : Stage
+  pub after : Stage
+  pub symmetric : (a b : ℕ) → touch a b → touch b a
+  pub told : (a b : ℕ) → Dec (touch a b)
+  pub ends : (c : ℕ) → before .cells ≤ c → before .level c ≡ 0
+  pub ends-after : (c : ℕ) → after .cells ≤ c → after .level c ≡ 0
+  pub fence : (a d : ℕ) → a < before .newest → before .cells ≤ d → touch a d → ⊥
+  pub further : Further before after
+
+-- A run from its start, column by column, with what the calls handed out of it.
+pub record Handing : Type 1 where
+  pub touch : ℕ → ℕ → Type 0
+  pub stage : ℕ → Stage
+  pub symmetric : (a b : ℕ) → touch a b → touch b a
+  pub told : (a b : ℕ) → Dec (touch a b)
+  pub grows : Growing touch stage
+  pub columns : ℕ
+  pub threshold : ℕ
+  pub batch : ℕ → List Entry
+  pub rest : List Entry
+  pub batches : (j : ℕ) → j < columns → Batch touch (stage j) (stage (suc j)) threshold (batch j)
+  pub ended : Rest touch (stage columns) threshold rest
 
 -- ---- plane touching
 
@@ -119,6 +153,53 @@ ListExists = (g : Ground) (T : ℕ) → (l : List Entry) × ListOf (g .touch) (g
 abbrev pub ZeroListsOne : Type 1
 ZeroListsOne = (g : Ground) (l : List Entry) → ListOf (g .touch) (g .level) 0 l ↔ ListOf (g .touch) (g .level) 1 l
 
+-- ---- a growing run
+
+-- "A peak is closed exactly when the ground above its key height (or all its ground, if it has none) no longer reaches the
+-- newest column"
+abbrev pub ClosedExactly : Type 1
+ClosedExactly = (touch : ℕ → ℕ → Type 0) (s : Stage) (e : Entry) → PeakEntry touch (s .level) e
+    → Closed touch s e
+    ↔ ((c : ℕ) → s .newest ≤ c → Way touch (λ d. floorOf (e .key) < s .level d) (e .cell) c → ⊥)
+
+-- "No further columns change a closed peak's cell, height, key height or pass cell": the entry is the same, and closed.
+abbrev pub ClosedStays : Type 1
+ClosedStays = (x : Extended) (e : Entry) → Closed (x .touch) (x .before) e → Closed (x .touch) (x .after) e
+
+abbrev pub ClosedIsland : Type 1
+ClosedIsland = (x : Extended) (e : Entry) → Closed (x .touch) (x .before) e → (c : ℕ)
+    → Island (x .touch) (x .before .level) (e .cell) (floorOf (e .key)) c
+    ↔ Island (x .touch) (x .after .level) (e .cell) (floorOf (e .key)) c
+
+-- "for an open one below the greatest legal height some further column would change its key height or unmake it": one of
+-- a single legal height.
+abbrev pub OpenCanChange : Type 0
+OpenCanChange = (rows columns : ℕ) (heights : List ℤ) (e : Entry) → length heights ≡ columns * rows
+    → Open (Plane rows) (stageOf rows columns heights) e → e .level < 4294967295
+    → (z : ℤ) × (mag z < 2147483648) × (0 < levelOf z)
+    × (KeyKept (Plane rows) (stageOf rows (suc columns) (heights ++ replicate rows z)) e → ⊥)
+
+-- A run of heights in the plane is a growing run.
+abbrev pub PlaneGrows : Type 0
+PlaneGrows = (rows : ℕ) (heights : List ℤ) → Growing (Plane rows) (λ j. stageOf rows j heights)
+
+-- "The batches from start to end hold just the whole run's list, ..
+abbrev pub BatchesHold : Type 1
+BatchesHold = (r : Handing) (l : List Entry)
+    → ListOf (r .touch) (r .stage (r .columns) .level) (r .threshold) l → (e : Entry)
+    → Member e l ↔ (((j : ℕ) × (j < r .columns) × Member e (r .batch j)) ⊎ Member e (r .rest))
+
+-- .. each peak once."
+abbrev pub BatchesOnce : Type 1
+BatchesOnce = (r : Handing) (i j : ℕ) (e e′ : Entry) → i < j → j < r .columns
+    → Member e (r .batch i) → Member e′ (r .batch j) → e .cell ≡ e′ .cell → ⊥
+
+abbrev pub RestOnce : Type 1
+RestOnce = (r : Handing) (i : ℕ) (e e′ : Entry) → i < r .columns
+    → Member e (r .batch i) → Member e′ (r .rest) → e .cell ≡ e′ .cell → ⊥
+
+-- ---- the marked grids
+
 -- "The ten grids marked * below are shown to follow from the definitions"
 abbrev pub MarkedFollow : Type 0
 MarkedFollow = Each Follows marked
@@ -144,4 +225,12 @@ pub record Claims : Type 1 where
   pub order-unique : OrderUnique
   pub list-exists : ListExists
   pub zero-lists-one : ZeroListsOne
+  pub closed-exactly : ClosedExactly
+  pub closed-stays : ClosedStays
+  pub closed-island : ClosedIsland
+  pub open-can-change : OpenCanChange
+  pub plane-grows : PlaneGrows
+  pub batches-hold : BatchesHold
+  pub batches-once : BatchesOnce
+  pub rest-once : RestOnce
   pub marked-follow : MarkedFollow

@@ -33,5 +33,6 @@ pub record Plane (rows a b : ℕ) : Type 0 where
 abbrev pub stageOf : ℕ → ℕ → List ℤ → Stage
 stageOf rows columns heights = record {
   level = levels (take (columns * rows) heights);
+  cells = columns * rows;
   newest = columns * rows - rows;
 }

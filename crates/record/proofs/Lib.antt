@@ -1,0 +1,4 @@
+pub mod Levels
+pub mod Refusals
+pub mod Claims
+mod Widths

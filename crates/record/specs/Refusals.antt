@@ -1,0 +1,42 @@
+-- Refusals: the table "What comes back" of document 01.
+--     Told           what a refusal tells the caller: its number, and the values that it also returns
+--     toldOf r       what the refusal r tells
+-- Assumes nothing.
+use mathlib.Core.List.{List, [], _∷_}
+use Prim.Native.Nat.{ℕ}
+use Rattle.record.specs.declared.Refusal.{Refusal}
+use Rattle.record.specs.declared.Refusal.the-variants.{Rows, Length, Cells, Work, Table, Ended}
+use Rattle.record.specs.declared.Refusal.the-variants.{ColumnLength, GridFull, TakenCells, FileLength}
+use Rattle.record.specs.declared.Refusal.the-variants.{FileCounts, Unsound, Room}
+
+pub record Told : Type 0 where
+  pub number : ℕ
+  pub values : List ℕ
+
+abbrev pub toldOf : Refusal → Told
+-- "rows are 0 or above 1,024"
+toldOf Rows = record { number = 1; values = [] }
+-- "length of heights is no multiple of rows (C entry: of 4 x rows bytes)"
+toldOf Length = record { number = 2; values = [] }
+-- "more than 1,048,576 cells, or would be with this column"
+toldOf Cells = record { number = 3; values = [] }
+-- "work area below 4 numbers of 32 bits per cell, new column counted"
+toldOf Work = record { number = 4; values = [] }
+-- "peak table too short"; also returns "the number of records needed"
+toldOf (Table needed) = record { number = 5; values = needed ∷ [] }
+-- "the run has ended"
+toldOf Ended = record { number = 6; values = [] }
+-- "offered column's length is not rows"
+toldOf ColumnLength = record { number = 7; values = [] }
+-- "the lent grid can't take one more column"
+toldOf GridFull = record { number = 8; values = [] }
+-- "the record's cells exceed the lent grid or 1,048,576"
+toldOf TakenCells = record { number = 9; values = [] }
+-- "file under 24 bytes, or its length is not the stored total"
+toldOf FileLength = record { number = 10; values = [] }
+-- "n above the cell count, or an offset or total not as computed"
+toldOf FileCounts = record { number = 11; values = [] }
+-- "a record is not sound"; also returns "index of the first such record"
+toldOf (Unsound index) = record { number = 12; values = index ∷ [] }
+-- "room too short for the file (writing) or the heights (reading)"; also returns "bytes or heights needed"
+toldOf (Room needed) = record { number = 13; values = needed ∷ [] }

@@ -1,0 +1,142 @@
+// The cell and record types, their constants and constructors, level and prominence, refusals.
+ghost use mathlib.Core.Bool.{not};
+ghost use mathlib.Core.Path.{_≡_};
+ghost use lib.IntN.{pos};
+ghost use lib.Signed.{_≤ℤ_};
+ghost use Rattle.relief.specs.Heights.{levelOf};
+ghost use Rattle.record.specs.Records.{isMark, withKey, withoutKey, Prominent};
+ghost use Rattle.record.specs.Refusals.{toldOf};
+
+// What a cell of the grid holds: a height, or the blank mark.
+pub struct Cell {
+    pub height: i32,
+}
+
+impl Cell {
+    // The blank mark, which is no height.
+    pub const BLANK: i32 = -2147483648;
+    // The greatest height.
+    pub const GREATEST: i32 = 2147483647;
+    // The most rows of a run.
+    pub const MAX_ROWS: u32 = 1024;
+    // The most cells of a run.
+    pub const MAX_CELLS: u32 = 1048576;
+
+    // Whether the cell is blank.
+    pub fn is_blank(self) -> bool
+        ensures { λ r. ⌜ r ≡ isMark (self .height) ⌝ }
+    {
+        self.height == Cell::BLANK
+    }
+}
+
+// The record of a peak: its cell, its height, its key height and its pass cell.
+pub struct Peak {
+    pub cell: u32,
+    pub height: i32,
+    pub key: i32,
+    pub pass: u32,
+}
+
+impl Peak {
+    // What a record without a key height holds in its place.
+    pub const MISSING_KEY: i32 = -2147483648;
+    // What a record without a key height holds as its pass cell.
+    pub const MISSING_PASS: u32 = 4294967295;
+
+    // The record of a peak that has a key height.
+    pub fn with_key(cell: u32, height: i32, key: i32, pass: u32) -> Peak
+        ensures { λ r. ⌜ r ≡ withKey cell height key pass ⌝ }
+    {
+        Peak {
+            cell: cell,
+            height: height,
+            key: key,
+            pass: pass,
+        }
+    }
+
+    // The record of a peak that has none.
+    pub fn without_key(cell: u32, height: i32) -> Peak
+        ensures { λ r. ⌜ r ≡ withoutKey cell height ⌝ }
+    {
+        Peak {
+            cell: cell,
+            height: height,
+            key: Peak::MISSING_KEY,
+            pass: Peak::MISSING_PASS,
+        }
+    }
+
+    // Whether the peak has a key height. The key field alone decides: a record with one mark of the two is not sound.
+    pub fn has_key(self) -> bool
+        ensures { λ r. ⌜ r ≡ not (isMark (self .key)) ⌝ }
+    {
+        self.key != Peak::MISSING_KEY
+    }
+}
+
+// What a level is above its height.
+const RAISE: i64 = 2147483648;
+
+// The level of a height. The sum is made in 64 bits: half of the levels are above every signed 32-bit number.
+pub fn level(height: i32) -> u32
+    ensures { λ r. ⌜ r ≡ levelOf height ⌝ }
+{
+    (height as i64 + RAISE) as u32
+}
+
+// The height at a level, the blank mark at level 0. That there is but one is the claim `LevelInjective`.
+pub fn height(level: u32) -> i32
+    ensures { λ r. ⌜ levelOf r ≡ level ⌝ }
+{
+    (level as i64 - RAISE) as i32
+}
+
+// The prominence of a height over a key height. The difference is made in 64 bits: two heights may lie 4,294,967,294
+// apart, which no signed 32-bit number holds.
+pub fn prominence(height: i32, key: i32) -> u32
+    requires { ⌜ key ≤ℤ height ⌝ }
+    ensures { λ r. ⌜ Prominent height key r ⌝ }
+{
+    (height as i64 - key as i64) as u32
+}
+
+// Why a call is refused: the cases of document 01's table "What comes back", in its order, with what they also return.
+// A number needed fits 32 bits: no file is longer than 24 + 20 x 1,048,576 bytes.
+pub enum Refusal {
+    Rows,
+    Length,
+    Cells,
+    Work,
+    Table { needed: u32 },
+    Ended,
+    ColumnLength,
+    GridFull,
+    TakenCells,
+    FileLength,
+    FileCounts,
+    Unsound { index: u32 },
+    Room { needed: u32 },
+}
+
+// The number of a refusal in that table.
+pub fn number(refusal: Refusal) -> u32
+    ensures { λ r. ⌜ r ≡ toldOf refusal .number ⌝ }
+{
+    match refusal {
+        Refusal::Rows => 1,
+        Refusal::Length => 2,
+        Refusal::Cells => 3,
+        Refusal::Work => 4,
+        Refusal::Table { needed: _ } => 5,
+        Refusal::Ended => 6,
+        Refusal::ColumnLength => 7,
+        Refusal::GridFull => 8,
+        Refusal::TakenCells => 9,
+        Refusal::FileLength => 10,
+        Refusal::FileCounts => 11,
+        Refusal::Unsound { index: _ } => 12,
+        Refusal::Room { needed: _ } => 13,
+    }
+}
