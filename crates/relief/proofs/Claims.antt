@@ -9,6 +9,7 @@ use mathlib.Core.Logic.{_⊎_, inl, inr}
 use Prim.Native.Nat.{ℕ, suc, _≤_, _<_}
 use native.Mathlib.Nat.{mod-lt}
 use native.Mathlib.Omega.{arith}
+use Rattle.relief.specs.Heights.{heightOf}
 use Rattle.relief.specs.Paths.{Way, alone, least}
 use Rattle.relief.specs.Peaks.{Key, missing, key, Entry, Wanted, KeyOf, Listed}
 use Rattle.relief.specs.Lists.{Member, InReadingOrder, ListOf}
@@ -44,7 +45,7 @@ use Rattle.relief.proofs.Batching.{Staged}
 use Rattle.relief.proofs.Closing as Closing
 use Rattle.relief.proofs.Growing as Growing
 use Rattle.relief.proofs.Plane as Plane
-use Rattle.relief.proofs.PlaneRun.{plane-growing, heightOf, heightOf-level, plane-open}
+use Rattle.relief.proofs.PlaneRun.{plane-growing, heightOf-level, plane-open}
 use Rattle.relief.proofs.Grids.{marked-follow}
 
 abbrev isYes : {A : Type 0} → Dec A → Bool

@@ -1,6 +1,6 @@
 -- A run of columns in the plane: it grows as a run does, and its newest cells touch the next column.
 --     plane-growing      the stages of a run of heights
---     heightOf           the height of a level, and that it has this level
+--     heightOf-level     the height at a level has this level
 --     plane-next         a cell of the last column touches one of the next
 --     plane-open         an open peak below the greatest height: the column one higher changes its key height or unmakes it
 -- Assumes nothing.
@@ -17,7 +17,7 @@ use lib.Signed.{mag}
 use borrow.Author.Tests.{leb-true, leb-false}
 use lib.ListN.{length, take, getD, replicate, getD-replicate, List·getD-append}
 use lib.Seq.{getD-take, getD-append-add}
-use Rattle.relief.specs.Heights.{BLANK, levelOf, levels}
+use Rattle.relief.specs.Heights.{BLANK, levelOf, heightOf, levels}
 use Rattle.relief.specs.Peaks.{Island, Entry, floorOf, PeakEntry}
 use Rattle.relief.specs.Runs.{Stage, Further, Open, KeyKept, Growing}
 use Rattle.relief.specs.Plane.{rowOf, columnOf, Plane, stageOf}
@@ -54,9 +54,6 @@ plane-next rows c l =
     record { row = (omega arith, omega arith); column = (omega arith, omega arith); other = λ q. omega arith }
 
 -- ---- heights of levels
-
-pub heightOf : ℕ → ℤ
-heightOf l = elim (leb 2147483648 l) [ true ↦ pos (l - 2147483648) | false ↦ negsuc (2147483647 - l) ]
 
 pub heightOf-level : (l : ℕ) → l < 4294967296 → (levelOf (heightOf l) ≡ l) × (mag (heightOf l) < 2147483648)
 unfolding heightOf levelOf

@@ -8,9 +8,11 @@ use Prim.Native.Nat.{ℕ, _+_, _*_, _/_, _%_, _≤_, _<_}
 use native.Mathlib.Omega.{arith}
 use lib.ListN.{length, getD, set, length-set}
 use lib.Seq.{getD-set-same, getD-set-other}
+use mir.Syntax.{w8}
+use mir.Val.{Fits}
 use Rattle.words.specs.Words.{wordAt, Stored}
 
-pub word-below : (s : List ℕ) → ((k : ℕ) → getD s k 0 < 256) → (i : ℕ) → wordAt s i < 4294967296
+pub word-below : (s : List ℕ) → ((k : ℕ) → Fits w8 (getD s k 0)) → (i : ℕ) → wordAt s i < 4294967296
 unfolding wordAt
 word-below s b i = omega (arith, b (4 * i), b (4 * i + 1), b (4 * i + 2), b (4 * i + 3))
 

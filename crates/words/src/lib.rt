@@ -3,6 +3,7 @@ ghost use mathlib.Core.Path.{_≡_};
 ghost use Prim.Native.Nat.{_+_, _*_, _<_, _≤_};
 ghost use lib.ListN.{length};
 ghost use Rattle.words.specs.Words.{wordAt, Stored};
+ghost use Rattle.words.specs.Area.{cellIn, markIn, markTwoIn};
 
 fn wide(b: u8) -> u32
     ensures { λ r. ⌜ (r ≡ b) × (r < 256) ⌝ }
@@ -29,4 +30,40 @@ pub fn put(s: &mut [u8], i: usize, v: u32)
     s[at + 1] = (v / 256 % 256) as u8;
     s[at + 2] = (v / 65536 % 256) as u8;
     s[at + 3] = (v / 16777216) as u8;
+}
+
+// A number of the work area as an index.
+pub fn index(v: u32) -> usize
+    ensures { λ r. ⌜ r ≡ v ⌝ }
+{
+    v as usize
+}
+
+// A cell as a number of the work area.
+pub fn narrow(c: usize) -> u32
+    requires { ⌜ c < 1048576 ⌝ }
+    ensures { λ r. ⌜ r ≡ c ⌝ }
+{
+    c as u32
+}
+
+// The cell in a number that may have marks.
+pub fn cell_in(w: u32) -> usize
+    ensures { λ r. ⌜ r ≡ cellIn w ⌝ }
+{
+    (w % 1048576) as usize
+}
+
+// Whether a number has the first mark.
+pub fn mark_in(w: u32) -> bool
+    ensures { λ r. ⌜ r ≡ markIn w ⌝ }
+{
+    w / 1048576 % 2 == 1
+}
+
+// Whether a number has the second mark.
+pub fn mark_two_in(w: u32) -> bool
+    ensures { λ r. ⌜ r ≡ markTwoIn w ⌝ }
+{
+    w / 2097152 % 2 == 1
 }

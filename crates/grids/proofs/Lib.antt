@@ -1,0 +1,2 @@
+-- What is proved apart from any one function. Assumes nothing.
+pub mod Signed

@@ -1,0 +1,36 @@
+// Runs every grid of section "Grids to check by", and each short cut that goes wrong, and prints a line for each.
+//
+// Then it runs made-up grids, on which the definitions fix how two answers are related, and counts those that agree.
+mod agree; // agree.rt: the batches of a run are the list
+mod answers; // answers.rt: the one place where a lister is asked
+mod backwards; // backwards.rt: the list of a grid that is read backwards
+mod paper; // paper.rt: the grids of the paper
+mod random; // random.rt: made-up grids
+mod records; // records.rt: rows of records
+mod shortcuts; // shortcuts.rt: the short cuts that go wrong
+mod show; // show.rt: a line for each answer
+mod text; // text.rt: words and numbers on standard output
+
+// How many made-up grids each relation is tried on.
+const GRIDS: u64 = 300;
+
+fn main() {
+    paper::run();
+    shortcuts::run();
+    made_up();
+}
+
+// Prints how many made-up grids agree.
+fn made_up() {
+    say_agreed(agree::count(GRIDS));
+    text::say(b" runs: batches and list agree\n");
+    say_agreed(backwards::count(GRIDS));
+    text::say(b" grids without equal heights: the list read backwards agrees\n");
+}
+
+// Writes how many of all agree.
+fn say_agreed(agreed: u64) {
+    text::say_count(agreed);
+    text::say(b" of ");
+    text::say_count(GRIDS);
+}

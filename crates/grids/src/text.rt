@@ -1,0 +1,34 @@
+// Words and numbers on standard output.
+use libc::STDOUT_FILENO;
+
+// Writes the text.
+pub fn say(text: &[u8]) {
+    io::write_all(STDOUT_FILENO, text);
+}
+
+// Writes a number that has no sign.
+pub fn say_count(n: u64) {
+    io::print_decimal(STDOUT_FILENO, n);
+}
+
+// Writes a number with its sign.
+pub fn say_number(n: i64) {
+    if n < 0 {
+        say(b"-");
+    }
+    say_count(magnitude(n));
+}
+
+// Writes a number, and a dash for the mark of a missing one.
+pub fn say_field(n: i64, missing: i64) {
+    if n == missing {
+        say(b"-");
+    } else {
+        say_number(n);
+    }
+}
+
+// A number without its sign. The bits of a number below zero are turned round first, so that the least one has room.
+pub fn magnitude(n: i64) -> u64 {
+    if n < 0 { (!n) as u64 + 1 } else { n as u64 }
+}

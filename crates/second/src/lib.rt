@@ -1,0 +1,71 @@
+// A second lister, for grids of at most 64 cells: brute force from the definitions alone, with no code of the first.
+//
+// It is what the first lister is compared with, so its contracts say only that each call is safe and ends.
+mod ground; // ground.rt: heights, and the sets of cells that a height divides
+mod listing; // listing.rt: which peaks are listed, which are closed, and their records as numbers
+mod peaks; // peaks.rt: flats, peaks, outranking ground, key heights, islands, passes
+mod refusals; // refusals.rt: the number of the refusal that each call gives
+mod sets; // sets.rt: sets of cells
+mod touch; // touch.rt: touching cells, and what paths reach
+
+pub use listing::prominence;
+pub use refusals::column_refusal;
+pub use refusals::end_refusal;
+pub use refusals::list_refusal;
+pub use refusals::start_refusal;
+
+// The greatest number of cells of a grid that this lister takes.
+pub const MAX: usize = 64;
+
+// The mark of a blank cell, and of a key height that is missing.
+pub const BLANK: i32 = -2147483648;
+
+// The mark of a pass cell that is missing.
+pub const MISSING_PASS: u32 = 4294967295;
+
+// Room for a record of each cell. A record is four numbers: cell, height, key height, pass cell.
+pub type Records = [i64; 256];
+
+// Writes the list of a whole grid, and answers the number of records; a grid that is not supported has none.
+pub fn list(rows: usize, heights: &[i32], threshold: u32, out: &mut Records) -> usize {
+    if !supported(rows, heights.len()) {
+        return 0;
+    }
+    let near = touch::table(rows, heights.len());
+    let summits = peaks::peaks(&near, heights);
+    let chosen = listing::listed(&near, heights, summits, threshold);
+    listing::write(&near, heights, summits, chosen, out)
+}
+
+// Writes what the column call hands out whose accepted column is the last one of heights, in the form of `list`.
+pub fn batch(rows: usize, heights: &[i32], threshold: u32, out: &mut Records) -> usize {
+    if !supported(rows, heights.len()) {
+        return 0;
+    }
+    let near = touch::table(rows, heights.len());
+    let summits = peaks::peaks(&near, heights);
+    let fresh = listing::closed(&near, rows, heights)
+        & !listing::closed_before(&near, rows, heights);
+    let chosen = fresh & listing::listed(&near, heights, summits, threshold);
+    listing::write(&near, heights, summits, chosen, out)
+}
+
+// Writes what End hands out for a run of these heights, in the form of `list`.
+pub fn rest(rows: usize, heights: &[i32], threshold: u32, out: &mut Records) -> usize {
+    if !supported(rows, heights.len()) {
+        return 0;
+    }
+    let near = touch::table(rows, heights.len());
+    let summits = peaks::peaks(&near, heights);
+    let open = summits & !listing::closed(&near, rows, heights);
+    let chosen = open & listing::listed(&near, heights, summits, threshold);
+    listing::write(&near, heights, summits, chosen, out)
+}
+
+// Whether this lister takes a grid of so many rows and cells.
+pub fn supported(rows: usize, cells: usize) -> bool {
+    if rows == 0 {
+        return false;
+    }
+    cells <= MAX && cells % rows == 0
+}

@@ -1,0 +1,119 @@
+// The number of the refusal that each call gives, and 0 for none: section "What comes back", in the order it states.
+//
+// They go by numbers alone: the lengths of what is lent, the work area in numbers of 32 bits, the table in records.
+
+// The greatest number of rows.
+const MAX_ROWS: u32 = 1024;
+
+// The greatest number of cells.
+const MAX_CELLS: u64 = 1048576;
+
+// The refusal of a list call: 1, 2, 3, 4, 5.
+pub fn list_refusal(rows: u32, length: usize, work: usize, table: usize, needed: usize) -> u32 {
+    if rows == 0 {
+        return 1;
+    }
+    if rows > MAX_ROWS {
+        return 1;
+    }
+    let cells = length as u64;
+    if cells % (rows as u64) != 0 {
+        return 2;
+    }
+    if cells > MAX_CELLS {
+        return 3;
+    }
+    room_refusal(rows, cells / (rows as u64), work, table, needed)
+}
+
+// The refusal of a start call: 1.
+pub fn start_refusal(rows: u32) -> u32 {
+    if rows == 0 {
+        return 1;
+    }
+    if rows > MAX_ROWS {
+        return 1;
+    }
+    0
+}
+
+// The refusal of a column call: 1, 9, 6, 7, 3, 8, 4, 5. The lengths of the column and the grid are `offered`, `grid`.
+pub fn column_refusal(
+    rows: u32,
+    columns: u32,
+    ended: bool,
+    offered: usize,
+    grid: usize,
+    work: usize,
+    table: usize,
+    needed: usize,
+) -> u32 {
+    let run = run_refusal(rows, columns, ended, grid);
+    if run != 0 {
+        return run;
+    }
+    if offered as u64 != rows as u64 {
+        return 7;
+    }
+    let more = columns as u64 + 1;
+    if exceed(rows, more, MAX_CELLS) {
+        return 3;
+    }
+    if exceed(rows, more, grid as u64) {
+        return 8;
+    }
+    room_refusal(rows, more, work, table, needed)
+}
+
+// The refusal of an end call: 1, 9, 6, 4, 5.
+pub fn end_refusal(
+    rows: u32,
+    columns: u32,
+    ended: bool,
+    grid: usize,
+    work: usize,
+    table: usize,
+    needed: usize,
+) -> u32 {
+    let run = run_refusal(rows, columns, ended, grid);
+    if run != 0 {
+        return run;
+    }
+    room_refusal(rows, columns as u64, work, table, needed)
+}
+
+// What column and end calls refuse in a run record: 1, 9, 6.
+fn run_refusal(rows: u32, columns: u32, ended: bool, grid: usize) -> u32 {
+    if start_refusal(rows) != 0 {
+        return 1;
+    }
+    if exceed(rows, columns as u64, grid as u64) {
+        return 9;
+    }
+    if exceed(rows, columns as u64, MAX_CELLS) {
+        return 9;
+    }
+    if ended {
+        return 6;
+    }
+    0
+}
+
+// The last two refusals of every call that lists: 4, 5.
+fn room_refusal(rows: u32, columns: u64, work: usize, table: usize, needed: usize) -> u32 {
+    if exceed(rows, columns, work as u64 / 4) {
+        return 4;
+    }
+    if table < needed {
+        return 5;
+    }
+    0
+}
+
+// Whether so many columns have more cells than the room. The room is divided, since the product may not fit.
+fn exceed(rows: u32, columns: u64, room: u64) -> bool {
+    if rows == 0 {
+        return false;
+    }
+    room / (rows as u64) < columns
+}

@@ -1,0 +1,5 @@
+pub mod Priority
+pub mod Tracking
+pub mod Joining
+pub mod Steps
+pub mod Neighbours

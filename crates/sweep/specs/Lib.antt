@@ -1,0 +1,3 @@
+pub mod Neighbours
+pub mod Sweep
+pub mod Joins
