@@ -3,3 +3,7 @@ pub mod Tracking
 pub mod Joining
 pub mod Steps
 pub mod Neighbours
+pub mod Bits
+pub mod Work
+pub mod Looking
+pub mod Sweeping

@@ -1,3 +1,4 @@
 pub mod Neighbours
 pub mod Sweep
 pub mod Joins
+pub mod Taking
