@@ -1,28 +1,30 @@
 -- The records that a survey leaves in the work area as flat numbers, and the lent row of records.
---     passCell w              the pass cell in a pass number; above it a pass number has marks
+--     Pointed s n c           the work area holds c's numbers, and those of its pass cell
 --     peakIn s n c            the record of the peak at the cell c
 --     recordsIn s n count     the records of the first so many cells of the order quarter
 --     Fillable t s n count    the row t has room for them, and the work area s holds cells where they are asked for
 --     Counted s n count       so many listed cells stand in the order quarter, each with a pass cell
 -- Assumes nothing.
-use mathlib.Core.Bool.{Bool, true, false}
+use mathlib.Core.Bool.{true, false}
 use mathlib.Core.List.{List, [], _∷_, _++_}
-use Prim.Native.Nat.{ℕ, zero, suc, _%_, _≤_, _<_}
+use Prim.Native.Nat.{ℕ, zero, suc, _≤_, _<_}
 use lib.Dec.{eqb}
 use lib.ListN.{length}
 use Rattle.relief.specs.Heights.{heightOf}
-use Rattle.words.specs.Area.{Area, levelIn, orderIn, parentIn, passIn}
+use Rattle.words.specs.Area.{Area, levelIn, orderIn, parentIn, passIn, cellIn}
 use Rattle.record.specs.declared.Peak.{Peak}
 use Rattle.record.specs.Records.{withKey, withoutKey}
 
--- A cell number has 20 bits.
-unfoldable pub passCell : ℕ → ℕ
-passCell w = w % 1048576
+-- What is asked of one cell, so that its record can be read.
+pub record Pointed (s : List ℕ) (n c : ℕ) : Type 0 where
+  pub area : Area s n
+  pub cell : c < n
+  pub pass : cellIn (passIn s n c) < n
 
 -- A cell that hangs under none has no key height; another's is the height of its pass cell.
 unfoldable pub peakIn : List ℕ → ℕ → ℕ → Peak
 peakIn s n c =
-    let pass = passCell (passIn s n c) in
+    let pass = cellIn (passIn s n c) in
     elim (eqb (parentIn s n c) c) [
       | true ↦ withoutKey c (heightOf (levelIn s c))
       | false ↦ withKey c (heightOf (levelIn s c)) (heightOf (levelIn s pass)) pass
@@ -36,7 +38,7 @@ pub record Counted (s : List ℕ) (n count : ℕ) : Type 0 where
   pub area : Area s n
   pub few : count ≤ n
   pub cells : (i : ℕ) → i < count → orderIn s n i < n
-  pub passes : (i : ℕ) → i < count → passCell (passIn s n (orderIn s n i)) < n
+  pub passes : (i : ℕ) → i < count → cellIn (passIn s n (orderIn s n i)) < n
 
 pub record Fillable (t : List Peak) (s : List ℕ) (n count : ℕ) : Type 0 where
   pub counted : Counted s n count

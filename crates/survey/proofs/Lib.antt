@@ -1,0 +1,6 @@
+pub mod Choosing
+pub mod Gathering
+pub mod Places
+pub mod Answering
+pub mod Surveys
+pub mod Marking
