@@ -4,3 +4,4 @@ pub mod Places
 pub mod Answering
 pub mod Surveys
 pub mod Marking
+pub mod Recording

@@ -1,0 +1,71 @@
+-- The whole-grid call: sections "What comes back" and "Peak, outranking ground, key height, pass" of document 01.
+--     listAnswer        the answer, by the tests in the paper's order
+--     listTable         the row of records after the call
+--     Lists             the promise of the call: it determines the answer and the row on all inputs
+--     Flat              the promise of the call without the row: what is left in the work area
+-- Assumes nothing.
+use mathlib.Core.Path.{_≡_}
+use mathlib.Core.Bool.{Bool, true, false, not}
+use mathlib.Core.List.{List, _++_, map}
+use Prim.Native.Nat.{ℕ, _*_, _%_, _≤_}
+use lib.Dec.{eqb, ltb}
+use lib.IntN.{ℤ}
+use lib.ListN.{length, drop}
+use Rattle.relief.specs.Heights.{levels}
+use Rattle.relief.specs.Peaks.{Entry}
+use Rattle.relief.specs.Lists.{ListOf}
+use Rattle.relief.specs.Plane.{Plane}
+use Rattle.relief.proofs.Deciding.{either}
+use Rattle.record.specs.declared.Peak.{Peak}
+use Rattle.record.specs.declared.Refusal.the-variants.{Rows, Length, Cells, Work, Table}
+use Rattle.record.specs.Records.{recordOf}
+use Rattle.table.specs.Table.{Counted, recordsIn}
+use Rattle.list.specs.declared.Listed.{Listed}
+use Rattle.list.specs.declared.Listed.the-variants.{Count, Refused}
+
+abbrev pub pickListed : Bool → Listed → Listed → Listed
+pickListed true a b = a
+pickListed false a b = b
+
+-- "List: 1, 2, 3, 4, 5." `work` is in bytes, 16 for "4 numbers of 32 bits per cell"; `room` and `needed` are in records.
+unfoldable pub listAnswer : ℕ → ℕ → ℕ → ℕ → ℕ → Listed
+listAnswer rows cells work room needed =
+    -- "rows are 0 or above 1,024"
+    pickListed (either (eqb rows 0) (ltb 1024 rows)) (Refused Rows)
+    -- "length of heights is no multiple of rows"
+    (pickListed (not (eqb (cells % rows) 0)) (Refused Length)
+    -- "more than 1,048,576 cells"
+    (pickListed (ltb 1048576 cells) (Refused Cells)
+    -- "work area below 4 numbers of 32 bits per cell"
+    (pickListed (ltb work (16 * cells)) (Refused Work)
+    -- "peak table too short"; also returns "the number of records needed"
+    (pickListed (ltb room needed) (Refused (Table needed)) (Count needed)))))
+
+-- "A refusal [..] writes nothing"; "On success table entries [..] beyond those counted stay as they were."
+abbrev pub listTable : Listed → List Peak → List Peak → List Peak
+listTable (Count n) records table = records ++ drop n table
+listTable (Refused r) records table = table
+
+-- The list of the definition is there for every grid and is one (`ListExists`, `OrderUnique` of `relief`). The heights
+-- are lent to be read, and the work area's contents are left open (docs/EXCEPTIONS.md).
+pub record Lists (rows : ℕ) (heights : List ℤ) (T work : ℕ) (table table′ : List Peak) (answer : Listed) : Type 0 where
+  pub list : List Entry
+  pub right : ListOf (Plane rows) (levels heights) T list
+  pub answered : answer ≡ listAnswer rows (length heights) work (length table) (length list)
+  pub filled : table′ ≡ listTable answer (map recordOf list) table
+
+-- The same where only the room of the row is known: the records stand in the work area `left`.
+pub record Flat (rows : ℕ) (heights : List ℤ) (T work room : ℕ) (left : List ℕ) (answer : Listed) : Type 0 where
+  pub list : List Entry
+  pub right : ListOf (Plane rows) (levels heights) T list
+  pub answered : answer ≡ listAnswer rows (length heights) work room (length list)
+  pub counted : (n : ℕ) → answer ≡ Count n → Counted left (length heights) n × (n ≤ room)
+  pub records : (n : ℕ) → answer ≡ Count n → recordsIn left (length heights) n ≡ map recordOf list
+
+abbrev pub countIn : Listed → ℕ
+countIn (Count n) = n
+countIn (Refused r) = 0
+
+abbrev pub cellsIn : Listed → ℕ → ℕ
+cellsIn (Count n) cells = cells
+cellsIn (Refused r) cells = 0
