@@ -1,23 +1,22 @@
 -- The answers of the whole-grid call, and that its promise allows one answer and one row.
---     some-list          the list is there whatever is refused
---     answer-*           the answer at each return
+--     loaded-levels      the levels loaded are those of the heights
+--     flat-*             the promise of `flat` at each return; the list is there whatever is refused
+--     flat-fillable      what `flat` leaves may be filled into the row; after a refusal no record is
+--     flat-lists         the row that is filled so keeps the promise of the whole call
 --     list-unique        two answers that the promise allows are equal, and so are two rows
 -- Assumes nothing.
 use mathlib.Core.Path.{_≡_, refl, sym, _∙_, ap, ap₂, subst, fun-ext}
-use mathlib.Core.Bool.{Bool, true, false, not}
-use mathlib.Core.List.{List, map}
-use mathlib.Core.Logic.{_⊎_, inl, inr}
+use mathlib.Core.List.{List, _++_, map}
 use Prim.Native.Nat.{ℕ, _*_, _%_, _≤_, _<_}
 use native.Mathlib.Omega.{arith}
-use lib.Dec.{eqb, ltb}
 use lib.IntN.{ℤ}
-use lib.ListN.{length}
+use lib.ListN.{length, drop}
 use borrow.Author.Tests.{eq-eqb, ne-eqb, lt-ltb, le-ltb}
 use Rattle.relief.specs.Heights.{levels}
 use Rattle.relief.specs.Peaks.{Entry, Listed}
-use Rattle.relief.specs.Lists.{ListOf, InReadingOrder}
+use Rattle.relief.specs.Lists.{ListOf}
 use Rattle.relief.specs.Plane.{Plane}
-use Rattle.relief.proofs.Deciding.{split, le-or-lt, either}
+use Rattle.relief.proofs.Deciding.{split, le-or-lt}
 use Rattle.relief.proofs.Listing.{order-unique}
 use Rattle.relief.proofs.Surveying.{survey, survey-list}
 use Rattle.relief.proofs.Plane.{plane?}
@@ -26,15 +25,16 @@ use Rattle.record.specs.declared.Peak.{Peak}
 use Rattle.record.specs.declared.Refusal.{Refusal}
 use Rattle.record.specs.declared.Refusal.the-variants.{Rows, Length, Cells, Work, Table}
 use Rattle.record.specs.Records.{recordOf}
-use Rattle.words.specs.Area.{Area, levelIn}
+use Rattle.words.specs.Area.{levelIn}
 use Rattle.sweep.specs.Taking.{cut}
 use Rattle.sweep.proofs.Work.{cut-below, cut-behind}
-use Rattle.table.specs.Table.{Counted, recordsIn}
-use Rattle.survey.specs.Answers.{entriesIn, Loading, Loaded, Surveying, Answered}
+use Rattle.table.specs.Table.{Counted, recordsIn, Fillable}
+use Rattle.table.proofs.Laws.{filled-start}
+use Rattle.survey.specs.Answers.{entriesIn, Loaded, Answered}
 use Rattle.survey.proofs.Recording.{places-record, places-length}
 use Rattle.list.specs.declared.Listed as Answer
 use Rattle.list.specs.declared.Listed.the-variants.{Count, Refused}
-use Rattle.list.specs.Listing.{pickListed, listAnswer, listTable, Lists, Flat}
+use Rattle.list.specs.Listing.{listAnswer, listTable, Lists, Flat, countIn, cellsIn}
 
 -- ---- the list
 
@@ -46,6 +46,16 @@ loaded-levels {s} {t} {heights} h = fun-ext λ c.
     (λ l. cut-behind (length heights) (levelIn t) c l ∙ sym (levels-end heights c l))
     (λ l. cut-below (length heights) (levelIn t) c l ∙ h .levels-in c l)
 
+list-right : {rows T : ℕ} {heights : List ℤ} {s t left : List ℕ} {k : ℕ} → Loaded s t heights (length heights)
+    → Answered t left (length heights) (Listed (Plane rows) (cut (length heights) (levelIn t)) T) k
+    → ListOf (Plane rows) (levels heights) T (entriesIn left (length heights) k)
+list-right {rows} {T} {heights} {s} {t} {left} {k} loaded made =
+    subst (λ (L : ℕ → ℕ). ListOf (Plane rows) L T (entriesIn left (length heights) k)) (loaded-levels loaded)
+    (made .order)
+
+list-length : (left : List ℕ) (n k : ℕ) → length (entriesIn left n k) ≡ k
+list-length left n k = places-length _ k
+
 -- ---- the answers
 
 refused-count : {r : Refusal} {n : ℕ} → Refused r ≡ Count n → ⊥
@@ -54,7 +64,34 @@ refused-count e = let z : _≡_ {A = ℕ} 0 1 = cc in omega arith
 count-same : {m n : ℕ} → Count m ≡ Count n → m ≡ n
 count-same e = cc
 
-module _ (rows : ℕ) (heights : List ℤ) (T work room : ℕ) (left : List ℕ) where
+-- what is answered once the list is known, of k entries
+module _ (rows cells work room : ℕ) (some : rows ≡ 0 → ⊥) (few : rows ≤ 1024) (whole : cells % rows ≡ 0)
+    (fits : cells ≤ 1048576) (space : 16 * cells ≤ work) (k : ℕ) where
+  answer-short : room < k → Refused (Table k) ≡ listAnswer rows cells work room k
+  unfolding listAnswer
+  answer-short l = simp (
+    ne-eqb rows 0 some,
+    le-ltb 1024 rows few,
+    eq-eqb (cells % rows) 0 whole,
+    le-ltb 1048576 cells fits,
+    le-ltb work (16 * cells) space,
+    lt-ltb room k l,
+  )
+
+  answer-count : k ≤ room → Count k ≡ listAnswer rows cells work room k
+  unfolding listAnswer
+  answer-count l = simp (
+    ne-eqb rows 0 some,
+    le-ltb 1024 rows few,
+    eq-eqb (cells % rows) 0 whole,
+    le-ltb 1048576 cells fits,
+    le-ltb work (16 * cells) space,
+    le-ltb room k l,
+  )
+
+-- ---- `flat` at each return
+
+module _ {rows : ℕ} {heights : List ℤ} {T work room : ℕ} {left : List ℕ} where
   -- refused before the list is made: it is there all the same
   refused-early : {r : Refusal} → ((k : ℕ) → Refused r ≡ listAnswer rows (length heights) work room k)
       → Flat rows heights T work room left (Refused r)
@@ -85,8 +122,12 @@ module _ (rows : ℕ) (heights : List ℤ) (T work room : ℕ) (left : List ℕ)
         pub flat-cells : 1048576 < length heights → Flat rows heights T work room left (Refused Cells)
         unfolding listAnswer
         flat-cells l =
-            refused-early (λ k. simp
-            (ne-eqb rows 0 some, le-ltb 1024 rows few, eq-eqb (length heights % rows) 0 whole, lt-ltb 1048576 (length heights) l))
+            refused-early (λ k. simp (
+              ne-eqb rows 0 some,
+              le-ltb 1024 rows few,
+              eq-eqb (length heights % rows) 0 whole,
+              lt-ltb 1048576 (length heights) l,
+            ))
 
         module _ (fits : length heights ≤ 1048576) where
           pub flat-work : work < 16 * length heights → Flat rows heights T work room left (Refused Work)
@@ -100,61 +141,64 @@ module _ (rows : ℕ) (heights : List ℤ) (T work room : ℕ) (left : List ℕ)
                 lt-ltb work (16 * length heights) l,
               ))
 
-          module _ (space : 16 * length heights ≤ work) where
-            -- what is answered once the list is known
-            answer-short : (k : ℕ) → room < k → Refused (Table k) ≡ listAnswer rows (length heights) work room k
-            unfolding listAnswer
-            answer-short k l = simp (
-              ne-eqb rows 0 some,
-              le-ltb 1024 rows few,
-              eq-eqb (length heights % rows) 0 whole,
-              le-ltb 1048576 (length heights) fits,
-              le-ltb work (16 * length heights) space,
-              lt-ltb room k l,
-            )
+          module _ (space : 16 * length heights ≤ work) {s t : List ℕ} {k : ℕ}
+              (loaded : Loaded s t heights (length heights)) (made : Answered t left (length heights)
+              (Listed (Plane rows) (cut (length heights) (levelIn t)) T) k) where
+            pub flat-short : {m : ℕ} → m ≡ k → room < k → Flat rows heights T work room left (Refused (Table m))
+            flat-short e l = record {
+              list = entriesIn left (length heights) k;
+              right = list-right loaded made;
+              answered = ap (λ (x : ℕ). Refused (Table x)) e
+                  ∙ answer-short rows (length heights) work room some few whole fits space k l
+                  ∙ ap (listAnswer rows (length heights) work room) (sym (list-length left (length heights) k));
+              counted = λ n q. absurd (refused-count q);
+              records = λ n q. absurd (refused-count q);
+            }
 
-            answer-count : (k : ℕ) → k ≤ room → Count k ≡ listAnswer rows (length heights) work room k
-            unfolding listAnswer
-            answer-count k l = simp (
-              ne-eqb rows 0 some,
-              le-ltb 1024 rows few,
-              eq-eqb (length heights % rows) 0 whole,
-              le-ltb 1048576 (length heights) fits,
-              le-ltb work (16 * length heights) space,
-              le-ltb room k l,
-            )
+            pub flat-count : {m : ℕ} → m ≡ k → k ≤ room → Flat rows heights T work room left (Count m)
+            flat-count e l = record {
+              list = entriesIn left (length heights) k;
+              right = list-right loaded made;
+              answered = ap Count e ∙ answer-count rows (length heights) work room some few whole fits space k l
+                  ∙ ap (listAnswer rows (length heights) work room) (sym (list-length left (length heights) k));
+              counted = λ n q. let f = sym e ∙ count-same q in
+                  (subst (Counted left (length heights)) f (made .counted), subst (λ (x : ℕ). x ≤ room) f l);
+              records = λ n q. let f = sym e ∙ count-same q in
+                  ap (recordsIn left (length heights)) (sym f) ∙ places-record left (length heights) k;
+            }
 
-            module _ {s t : List ℕ} {k : ℕ} (loaded : Loaded s t heights (length heights))
-                (made : Answered t left (length heights) (Listed (Plane rows) (cut (length heights) (levelIn t)) T) k) where
-              list-right : ListOf (Plane rows) (levels heights) T (entriesIn left (length heights) k)
-              list-right =
-                  subst (λ (L : ℕ → ℕ). ListOf (Plane rows) L T (entriesIn left (length heights) k)) (loaded-levels loaded)
-                  (made .order)
+-- ---- the row
 
-              list-length : length (entriesIn left (length heights) k) ≡ k
-              list-length = places-length _ k
+counted-none : (s : List ℕ) → Counted s 0 0
+counted-none s = record {
+  area = record { few = omega arith; room = omega arith };
+  few = omega arith;
+  cells = λ i l. absurd (omega arith);
+  passes = λ i l. absurd (omega arith);
+}
 
-              pub flat-short : {m : ℕ} → m ≡ k → room < k → Flat rows heights T work room left (Refused (Table m))
-              flat-short e l = record {
-                list = entriesIn left (length heights) k;
-                right = list-right;
-                answered = ap (λ (x : ℕ). Refused (Table x)) e ∙ answer-short k l
-                    ∙ ap (listAnswer rows (length heights) work room) (sym list-length);
-                counted = λ n q. absurd (refused-count q);
-                records = λ n q. absurd (refused-count q);
-              }
+module _ {rows : ℕ} {heights : List ℤ} {T work : ℕ} (table : List Peak) {left : List ℕ} where
+  pub flat-fillable : (a : Answer.Listed) → Flat rows heights T work (length table) left a
+      → Fillable table left (cellsIn a (length heights)) (countIn a)
+  flat-fillable (Count n) h = record { counted = h .counted n refl .0; room = h .counted n refl .1 }
+  flat-fillable (Refused r) h = record { counted = counted-none left; room = omega arith }
 
-              pub flat-count : {m : ℕ} → m ≡ k → k ≤ room → Flat rows heights T work room left (Count m)
-              flat-count e l = record {
-                list = entriesIn left (length heights) k;
-                right = list-right;
-                answered = ap Count e ∙ answer-count k l ∙ ap (listAnswer rows (length heights) work room) (sym list-length);
-                counted = λ n q. let f = sym e ∙ count-same q in
-                    (subst (Counted left (length heights)) f (made .counted), subst (λ (x : ℕ). x ≤ room) f l);
-                records = λ n q. let f = sym e ∙ count-same q in
-                    subst (λ (x : ℕ). recordsIn left (length heights) x ≡ map recordOf (entriesIn left (length heights) k)) f
-                    (places-record left (length heights) k);
-              }
+  -- the row begins with the records of the list, or is as it was
+  row-filled : (a : Answer.Listed) → (h : Flat rows heights T work (length table) left a)
+      → recordsIn left (cellsIn a (length heights)) (countIn a) ++ drop (countIn a) table
+      ≡ listTable a (map recordOf (h .list)) table
+  row-filled (Count n) h = ap (λ (l : List Peak). l ++ drop n table) (h .records n refl)
+  row-filled (Refused r) h = filled-start table left 0
+
+  pub flat-lists : (a : Answer.Listed) → Flat rows heights T work (length table) left a → {t : List Peak}
+      → t ≡ recordsIn left (cellsIn a (length heights)) (countIn a) ++ drop (countIn a) table
+      → Lists rows heights T work table t a
+  flat-lists a h e = record {
+    list = h .list;
+    right = h .right;
+    answered = h .answered;
+    filled = e ∙ row-filled a h;
+  }
 
 -- ---- one answer
 
@@ -162,6 +206,7 @@ pub list-unique : {rows : ℕ} {heights : List ℤ} {T work : ℕ} {table t u : 
     → Lists rows heights T work table t a → Lists rows heights T work table u b → (a ≡ b) × (t ≡ u)
 list-unique {rows} {heights} {T} {work} {table} {t} {u} {a} {b} h k =
     let e : h .list ≡ k .list = order-unique (h .list) (k .list) (h .right) (k .right) in
-    let q : a ≡ b =
-    h .answered ∙ ap (λ (l : List Entry). listAnswer rows (length heights) work (length table) (length l)) e ∙ sym (k .answered) in
-    (q, h .filled ∙ ap₂ (λ (x : Answer.Listed) (l : List Entry). listTable x (map recordOf l) table) q e ∙ sym (k .filled))
+    let q : a ≡ b = h .answered
+    ∙ ap (λ (l : List Entry). listAnswer rows (length heights) work (length table) (length l)) e ∙ sym (k .answered) in
+    let f = ap₂ (λ (x : Answer.Listed) (l : List Entry). listTable x (map recordOf l) table) q e in
+    (q, h .filled ∙ f ∙ sym (k .filled))

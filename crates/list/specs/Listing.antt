@@ -27,7 +27,7 @@ abbrev pub pickListed : Bool → Listed → Listed → Listed
 pickListed true a b = a
 pickListed false a b = b
 
--- "List: 1, 2, 3, 4, 5." `work` is in bytes, 16 for "4 numbers of 32 bits per cell"; `room` and `needed` are in records.
+-- "List: 1, 2, 3, 4, 5." `work` is in bytes, 16 for "4 numbers of 32 bits per cell". `room` and `needed` count records.
 unfoldable pub listAnswer : ℕ → ℕ → ℕ → ℕ → ℕ → Listed
 listAnswer rows cells work room needed =
     -- "rows are 0 or above 1,024"

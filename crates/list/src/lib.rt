@@ -1,7 +1,8 @@
 // The whole-grid call: the flat core behind the refusals, and the lent row of records filled from it.
 ghost use mathlib.Core.Path.{_≡_};
 ghost use lib.ListN.{length};
-ghost use Rattle.list.specs.Listing.{Flat, countIn, cellsIn};
+ghost use Rattle.list.specs.Listing.{Lists, Flat, countIn, cellsIn};
+use record::Peak;
 use record::Refusal;
 
 // What the call answers: how many peaks are listed, or why it is refused.
@@ -12,7 +13,8 @@ pub enum Listed {
 
 // The whole-grid call without the table, of which only the room counts: the records are left in the work area.
 pub fn flat(rows: u32, heights: &[i32], threshold: u32, work: &mut [u8], room: usize) -> Listed
-    ensures { λ r. ⌜ Flat rows (now (heights .entry)) threshold (length (now (work .entry))) room (now (work .exit)) r ⌝ }
+    ensures { λ r. ⌜ Flat rows (now (heights .entry)) threshold (length (now (work .entry))) room
+        (now (work .exit)) r ⌝ }
 {
     if rows == 0 {
         return Listed::Refused(Refusal::Rows);
@@ -59,4 +61,23 @@ fn cells_of(answer: Listed, cells: usize) -> usize
         Listed::Count(_) => cells,
         Listed::Refused(_) => 0,
     }
+}
+
+// The whole-grid call: lists the peaks of a grid of `rows` rows into a lent row of records.
+pub fn list(
+    rows: u32,
+    heights: &[i32],
+    threshold: u32,
+    work: &mut [u8],
+    table: &mut [Peak],
+) -> Listed
+    ensures { λ r. ⌜ Lists rows (now (heights .entry)) threshold (length (now (work .entry)))
+        (now (table .entry)) (now (table .exit)) r ⌝ }
+{
+    let room = table.len();
+    let answer = flat(rows, heights, threshold, work, room);
+    let cells = cells_of(answer, heights.len());
+    let count = count_of(answer);
+    table::fill(table, work, cells, count);
+    answer
 }

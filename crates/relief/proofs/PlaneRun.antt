@@ -30,7 +30,7 @@ use Rattle.relief.proofs.Plane.{plane-fence}
 use Rattle.relief.proofs.Grids.{levels-end, plane-staged}
 
 -- cells within the first n are those of the whole grid
-levels-take : (heights : List ℤ) (n c : ℕ) → c < n → levels (take n heights) c ≡ levels heights c
+pub levels-take : (heights : List ℤ) (n c : ℕ) → c < n → levels (take n heights) c ≡ levels heights c
 unfolding levels
 levels-take heights n c l = ap levelOf (getD-take n heights c BLANK l)
 

@@ -1,0 +1,404 @@
+-- Column and End once their tests have passed: the answer, the record, the grid and what stands in the work area.
+--     column-passed, end-passed     what the tests say when all have passed
+--     copied                        the copy of a column
+--     column-short, column-count    the promise where the table is too short, and where it isn't; end-short, end-count
+--     column-refused, end-refused   the promise where a test failed
+-- Assumes nothing.
+use mathlib.Core.Path.{_≡_, refl, sym, _∙_, ap, ap₂, subst, subst₂, fun-ext}
+use mathlib.Core.Bool.{Bool, true, false, not}
+use mathlib.Core.List.{List, _++_, map}
+use mathlib.Core.Logic.{_⊎_, inl, inr}
+use Prim.Native.Nat.{ℕ, zero, suc, _+_, _-_, _*_, _≤_, _<_}
+use native.Mathlib.Nat.{suc-mul, mul-one, mul-le-mul-left}
+use native.Mathlib.Numerals.{add-one}
+use native.Mathlib.Omega.{arith}
+use lib.Dec.{eqb, ltb}
+use lib.IntN.{ℤ}
+use lib.ListN.{length, take, drop, getD, set, length-take}
+use lib.Seq.{paste, paste-suc, length-paste, take-paste, take-length, take-take}
+use borrow.Author.Tests.{eqb-true, ltb-false, eqb-false, lt-ltb, le-ltb, not-false}
+use Rattle.relief.specs.Heights.{levels}
+use Rattle.relief.specs.Peaks.{Entry}
+use Rattle.relief.specs.Runs.{Stage, Batch, Rest, Closing, Remaining}
+use Rattle.relief.specs.Plane.{Plane, stageOf}
+use Rattle.relief.proofs.Deciding.{split, le-or-lt, either, true-not-false}
+use Rattle.relief.proofs.Batching.{surveyBatch, surveyRest, survey-batch, survey-rest}
+use Rattle.relief.proofs.Plane.{plane?}
+use Rattle.relief.proofs.Grids.{levels-end, plane-staged}
+use Rattle.relief.proofs.PlaneRun.{levels-take}
+use Rattle.record.specs.declared.Refusal.{Refusal}
+use Rattle.record.specs.declared.Refusal.the-variants.{Table}
+use Rattle.record.specs.Records.{recordOf}
+use Rattle.words.specs.Area.{Area, levelIn}
+use Rattle.sweep.specs.Taking.{cut}
+use Rattle.sweep.proofs.Work.{cut-below, cut-behind}
+use Rattle.table.specs.Table.{Counted, recordsIn}
+use Rattle.survey.specs.Answers.{entriesIn, Loading, Loaded, Surveying, Answered, stageIn}
+use Rattle.survey.proofs.Recording.{places-record, places-length}
+use Rattle.run.specs.declared.Run.{Run}
+use Rattle.run.specs.declared.Handed.{Handed}
+use Rattle.run.specs.declared.Handed.the-variants.{Count, Refused}
+use Rattle.run.specs.declared.Checked.{Checked}
+use Rattle.run.specs.declared.Checked.the-variants.{Good, Bad}
+use Rattle.run.specs.Running.{
+  badRows,
+  pickChecked,
+  pickHanded,
+  handedAnswer,
+  takenOf,
+  heightsWith,
+  columnCheck,
+  endCheck,
+  columnRun,
+  endRun,
+  columnGrid,
+  GoodColumn,
+  GoodEnd,
+  FlatColumn,
+  FlatEnd,
+}
+
+-- ---- what passed tests say
+
+bad-good : {r : Refusal} → Bad r ≡ Good → ⊥
+bad-good e = let z : _≡_ {A = ℕ} 0 1 = cc in omega arith
+
+-- a test that would have refused failed
+pass : (b : Bool) {r : Refusal} → (b ≡ true → Bad r ≡ Good) → b ≡ false
+pass true f = absurd (bad-good (f refl))
+pass false f = refl
+
+either-false : (a b : Bool) → either a b ≡ false → (a ≡ false) × (b ≡ false)
+either-false true b e = true-not-false refl e
+either-false false b e = (refl, e)
+
+rows-known : (rows : ℕ) → badRows rows ≡ false → (0 < rows) × (rows ≤ 1024)
+rows-known rows e =
+    let (a, b) = either-false (eqb rows 0) (ltb 1024 rows) e in
+    let d = eqb-false rows 0 a in
+    let l = ltb-false 1024 rows b in
+    (omega arith, l)
+
+module _ (run : Run) (offered grid work : ℕ) where
+  pub column-passed : Good ≡ columnCheck run offered grid work → GoodColumn run offered grid work
+  unfolding columnCheck
+  column-passed e =
+      let a = pass (badRows (run .rows)) (λ z. simp z at (sym e)) in
+      let b = pass (either (ltb grid (takenOf run)) (ltb 1048576 (takenOf run))) (λ z. simp (a, z) at (sym e)) in
+      let c = pass (run .ended) (λ z. simp (a, b, z) at (sym e)) in
+      let d = pass (not (eqb offered (run .rows))) (λ z. simp (a, b, c, z) at (sym e)) in
+      let f = pass (ltb 1048576 (takenOf run + run .rows)) (λ z. simp (a, b, c, d, z) at (sym e)) in
+      let g = pass (ltb grid (takenOf run + run .rows)) (λ z. simp (a, b, c, d, f, z) at (sym e)) in
+      let h = pass (ltb work (16 * (takenOf run + run .rows))) (λ z. simp (a, b, c, d, f, g, z) at (sym e)) in
+      let (i, j) = rows-known (run .rows) a in
+      record {
+        good = sym e;
+        some = i;
+        few = j;
+        whole = eqb-true offered (run .rows) (not-false (eqb offered (run .rows)) d);
+        cells = ltb-false 1048576 (takenOf run + run .rows) f;
+        fits = ltb-false grid (takenOf run + run .rows) g;
+        space = ltb-false work (16 * (takenOf run + run .rows)) h;
+      }
+
+  pub end-passed : Good ≡ endCheck run grid work → GoodEnd run grid work
+  unfolding endCheck
+  end-passed e =
+      let a = pass (badRows (run .rows)) (λ z. simp z at (sym e)) in
+      let b = pass (either (ltb grid (takenOf run)) (ltb 1048576 (takenOf run))) (λ z. simp (a, z) at (sym e)) in
+      let c = pass (run .ended) (λ z. simp (a, b, z) at (sym e)) in
+      let h = pass (ltb work (16 * takenOf run)) (λ z. simp (a, b, c, z) at (sym e)) in
+      let (i, j) = rows-known (run .rows) a in
+      let (x, y) = either-false (ltb grid (takenOf run)) (ltb 1048576 (takenOf run)) b in
+      record {
+        good = sym e;
+        some = i;
+        few = j;
+        cells = ltb-false 1048576 (takenOf run) y;
+        fits = ltb-false grid (takenOf run) x;
+        space = ltb-false work (16 * takenOf run) h;
+      }
+
+-- ---- the copy of a column
+
+pub copied : (grid : List ℤ) (at : ℕ) (column : List ℤ) (i : ℕ) (z : ℤ) {now : List ℤ} {v : ℤ} → at + length column ≤ length grid
+    → i < length column → now ≡ paste grid at column i → v ≡ getD column i z → set now (at + i) v ≡ paste grid at column (i + 1)
+copied grid at column i z {now} {v} fits l e f =
+    ap₂ (λ (g : List ℤ) (x : ℤ). set g (at + i) x) e f ∙ paste-suc grid at column i z (omega arith) l
+    ∙ ap (paste grid at column) (sym (add-one i))
+
+-- ---- stages
+
+-- the levels loaded, of the first m cells
+loaded-stage : {s t : List ℕ} {heights : List ℤ} {n m : ℕ} → Loaded s t heights n → m ≤ n
+    → cut m (levelIn t) ≡ levels (take m heights)
+loaded-stage {s} {t} {heights} {n} {m} h l = fun-ext λ c.
+    split (le-or-lt m c)
+    (λ k. cut-behind m (levelIn t) c k
+    ∙ sym (levels-end (take m heights) c (let e = length-take m heights in omega arith)))
+    (λ k. cut-below m (levelIn t) c k ∙ h .levels-in c (omega arith) ∙ sym (levels-take heights m c k))
+
+-- the stage of a survey is that of the definition, where the cells are the same
+stage-is : (rows columns : ℕ) (whole : List ℤ) {s t : List ℕ} {heights : List ℤ} {n : ℕ} → Loaded s t heights n → columns * rows ≤ n
+    → take (columns * rows) heights ≡ take (columns * rows) whole → stageIn t (columns * rows) rows ≡ stageOf rows columns whole
+stage-is rows columns whole h l e = λ i. record {
+  level = (loaded-stage h l ∙ ap levels e) i;
+  cells = columns * rows;
+  newest = columns * rows - rows;
+}
+
+-- ---- the answers
+
+refused-count : {r : Refusal} {n : ℕ} → Refused r ≡ Count n → ⊥
+refused-count e = let z : _≡_ {A = ℕ} 0 1 = cc in omega arith
+
+count-same : {m n : ℕ} → Count m ≡ Count n → m ≡ n
+count-same e = cc
+
+answer-bad : {c : Checked} {r : Refusal} (room k : ℕ) → Bad r ≡ c → Refused r ≡ handedAnswer c room k
+answer-bad room k e = ap (λ (c : Checked). handedAnswer c room k) e
+
+answer-short : {c : Checked} {room k m : ℕ} → c ≡ Good → m ≡ k → room < k → Refused (Table m) ≡ handedAnswer c room k
+answer-short {c} {room} {k} e f l = rw (e, f) (simp (lt-ltb room k l))
+
+answer-count : {c : Checked} {room k m : ℕ} → c ≡ Good → m ≡ k → k ≤ room → Count m ≡ handedAnswer c room k
+answer-count {c} {room} {k} e f l = rw (e, f) (simp (le-ltb room k l))
+
+module _ (run : Run) (column grid : List ℤ) (work room : ℕ) (left : List ℕ) where
+  abbrev whole : List ℤ
+  whole = heightsWith run column grid
+
+  pub column-refused : {r : Refusal} → Bad r ≡ columnCheck run (length column) (length grid) work
+      → FlatColumn run column grid grid work room left run (Refused r)
+  column-refused e = record {
+    batch = surveyBatch (plane? (run .rows)) (stageOf (run .rows) (run .columns) whole) (stageOf (run .rows) (suc (run .columns)) whole) (run .threshold);
+    right = survey-batch (plane-staged (run .rows) (run .columns) whole) (plane-staged (run .rows) (suc (run .columns)) whole) (run .threshold);
+    answered = answer-bad room _ e;
+    run-after = refl;
+    grid-after = ap (λ (c : Checked). columnGrid c run column grid) e;
+    counted = λ n q. absurd (refused-count q);
+    records = λ n q. absurd (refused-count q);
+  }
+
+  pub end-refused : {r : Refusal} → Bad r ≡ endCheck run (length grid) work → FlatEnd run grid work room left run (Refused r)
+  end-refused e = record {
+    rest = surveyRest (plane? (run .rows)) (stageOf (run .rows) (run .columns) grid) (run .threshold);
+    right = survey-rest (plane-staged (run .rows) (run .columns) grid) (run .threshold);
+    answered = answer-bad room _ e;
+    run-after = refl;
+    counted = λ n q. absurd (refused-count q);
+    records = λ n q. absurd (refused-count q);
+  }
+
+  -- ---- Column
+
+  module _ (g : GoodColumn run (length column) (length grid) work) {s t : List ℕ} {k : ℕ}
+      (loaded : Loaded s t (paste grid (takenOf run) column (length column)) (takenOf run + run .rows))
+      (made : Answered t left (takenOf run + run .rows)
+      (Closing (Plane (run .rows)) (stageIn t (takenOf run) (run .rows)) (stageIn t (takenOf run + run .rows) (run .rows)) (run .threshold)) k) where
+    copy : List ℤ
+    copy = paste grid (takenOf run) column (length column)
+
+    -- the first cells of the grid with the column are the taken ones with the column
+    copy-whole : take (takenOf run + run .rows) copy ≡ whole
+    unfolding copy
+    copy-whole =
+        let l = g .fits in
+        ap (λ (m : ℕ). take (takenOf run + m) (paste grid (takenOf run) column (length column))) (sym (g .whole))
+        ∙ take-paste grid (takenOf run) column (length column) (omega arith) (omega arith)
+        ∙ ap (λ (c : List ℤ). take (takenOf run) grid ++ c) (take-length column)
+
+    copy-take : (m : ℕ) → m ≤ takenOf run + run .rows → take m copy ≡ take m whole
+    copy-take m l = sym (take-take m (takenOf run + run .rows) copy l) ∙ ap (take m) copy-whole
+
+    stage-before : stageIn t (takenOf run) (run .rows) ≡ stageOf (run .rows) (run .columns) whole
+    unfolding copy
+    stage-before = stage-is (run .rows) (run .columns) whole loaded (omega arith) (copy-take (takenOf run) (omega arith))
+
+    stage-after : stageIn t (takenOf run + run .rows) (run .rows) ≡ stageOf (run .rows) (suc (run .columns)) whole
+    unfolding copy
+    stage-after =
+        let e = suc-mul (run .columns) (run .rows) in
+        ap (λ (m : ℕ). stageIn t m (run .rows)) (sym e)
+        ∙ stage-is (run .rows) (suc (run .columns)) whole loaded (omega arith) (copy-take (suc (run .columns) * run .rows) (omega arith))
+
+    batch-right : Batch (Plane (run .rows)) (stageOf (run .rows) (run .columns) whole) (stageOf (run .rows) (suc (run .columns)) whole)
+        (run .threshold) (entriesIn left (takenOf run + run .rows) k)
+    batch-right =
+        subst₂ (λ (a b : Stage). Batch (Plane (run .rows)) a b (run .threshold) (entriesIn left (takenOf run + run .rows) k))
+        stage-before stage-after (made .order)
+
+    batch-length : length (entriesIn left (takenOf run + run .rows) k) ≡ k
+    batch-length = places-length _ k
+
+    pub column-short : {m : ℕ} → m ≡ k → room < k → FlatColumn run column grid (paste grid (takenOf run) column (length column)) work room left run (Refused (Table m))
+    column-short e l = record {
+      batch = entriesIn left (takenOf run + run .rows) k;
+      right = batch-right;
+      answered = answer-short (g .good) (e ∙ sym batch-length) (let f = batch-length in omega arith);
+      run-after = refl;
+      grid-after = ap (λ (c : Checked). columnGrid c run column grid) (sym (g .good));
+      counted = λ n q. absurd (refused-count q);
+      records = λ n q. absurd (refused-count q);
+    }
+
+    pub column-count : {m : ℕ} → m ≡ k → k ≤ room
+        → FlatColumn run column grid (paste grid (takenOf run) column (length column)) work room left
+        (record { rows = run .rows; columns = run .columns + 1; threshold = run .threshold; ended = run .ended }) (Count m)
+    column-count e l = record {
+      batch = entriesIn left (takenOf run + run .rows) k;
+      right = batch-right;
+      answered = answer-count (g .good) (e ∙ sym batch-length) (let f = batch-length in omega arith);
+      run-after = refl;
+      grid-after = ap (λ (c : Checked). columnGrid c run column grid) (sym (g .good));
+      counted = λ n q. let f = sym e ∙ count-same q in
+          (subst (Counted left (takenOf run + run .rows)) f (made .counted), subst (λ (x : ℕ). x ≤ room) f l);
+      records = λ n q. let f = sym e ∙ count-same q in
+          subst (λ (x : ℕ). recordsIn left (takenOf run + run .rows) x ≡ map recordOf (entriesIn left (takenOf run + run .rows) k)) f
+          (places-record left (takenOf run + run .rows) k);
+    }
+
+  -- ---- End
+
+  module _ (g : GoodEnd run (length grid) work) {s t : List ℕ} {k : ℕ} (loaded : Loaded s t grid (takenOf run))
+      (made : Answered t left (takenOf run) (Remaining (Plane (run .rows)) (stageIn t (takenOf run) (run .rows)) (run .threshold)) k) where
+    rest-right : Rest (Plane (run .rows)) (stageOf (run .rows) (run .columns) grid) (run .threshold) (entriesIn left (takenOf run) k)
+    rest-right =
+        subst (λ (a : Stage). Rest (Plane (run .rows)) a (run .threshold) (entriesIn left (takenOf run) k))
+        (stage-is (run .rows) (run .columns) grid loaded (omega arith) refl) (made .order)
+
+    rest-length : length (entriesIn left (takenOf run) k) ≡ k
+    rest-length = places-length _ k
+
+    pub end-short : {m : ℕ} → m ≡ k → room < k → FlatEnd run grid work room left run (Refused (Table m))
+    end-short e l = record {
+      rest = entriesIn left (takenOf run) k;
+      right = rest-right;
+      answered = answer-short (g .good) (e ∙ sym rest-length) (let f = rest-length in omega arith);
+      run-after = refl;
+      counted = λ n q. absurd (refused-count q);
+      records = λ n q. absurd (refused-count q);
+    }
+
+    pub end-count : {m : ℕ} → m ≡ k → k ≤ room
+        → FlatEnd run grid work room left
+        (record { rows = run .rows; columns = run .columns; threshold = run .threshold; ended = true }) (Count m)
+    end-count e l = record {
+      rest = entriesIn left (takenOf run) k;
+      right = rest-right;
+      answered = answer-count (g .good) (e ∙ sym rest-length) (let f = rest-length in omega arith);
+      run-after = refl;
+      counted = λ n q. let f = sym e ∙ count-same q in
+          (subst (Counted left (takenOf run)) f (made .counted), subst (λ (x : ℕ). x ≤ room) f l);
+      records = λ n q. let f = sym e ∙ count-same q in
+          subst (λ (x : ℕ). recordsIn left (takenOf run) x ≡ map recordOf (entriesIn left (takenOf run) k)) f
+          (places-record left (takenOf run) k);
+    }
+
+-- ---- the same, with the rows and columns as the code has them
+
+module _ (run : Run) (column grid : List ℤ) (work room : ℕ) (left : List ℕ) (g : GoodColumn run (length column) (length grid) work)
+    {r k : ℕ} (er : r ≡ run .rows) (ek : k ≡ run .columns) where
+  product : k * r ≡ takenOf run
+  product = ap₂ (λ (x y : ℕ). x * y) ek er
+
+  pub column-sum : k * r + r ≤ 1048576
+  column-sum = let e = product in let h = g .cells in omega arith
+
+  pub column-copying : k * r + length column ≤ length grid
+  column-copying = let e = product in let h = g .fits in let i = g .whole in omega arith
+
+  pub column-loading : {copied : List ℤ} {bytes : List ℕ} → copied ≡ paste grid (k * r) column (length column) → length bytes ≡ work
+      → Loading bytes copied (k * r + r)
+  column-loading {copied} e f =
+      let p = product in
+      let l = ap length e ∙ length-paste grid (k * r) column (length column) column-copying (omega arith) in
+      let c = column-copying in
+      let i = g .whole in
+      record { area = record { few = column-sum; room = let s = g .space in omega arith }; all = omega arith }
+
+  pub column-surveying : {bytes t : List ℕ} {heights : List ℤ} → length bytes ≡ work → Loaded bytes t heights (k * r + r)
+      → Surveying t (k * r + r) r × (k * r ≤ k * r + r)
+  column-surveying e h =
+      let p = product in
+      let l = h .len in (
+        record {
+          area = record { few = column-sum; room = let s = g .space in omega arith };
+          rows-some = let i = g .some in omega arith;
+          rows-few = let i = g .few in omega arith;
+        },
+        omega arith,
+      )
+
+  pub columns-fit : run .columns + 1 < 4294967296
+  columns-fit =
+      let h : run .columns * 1 ≤ run .columns * run .rows = mul-le-mul-left (run .columns) (g .some) in
+      let e = mul-one (run .columns) in
+      let c = g .cells in
+      omega arith
+
+  module _ {copied : List ℤ} {s t : List ℕ} {n : ℕ} (ec : copied ≡ paste grid (k * r) column (length column))
+      (loaded : Loaded s t copied (k * r + r))
+      (made : Answered t left (k * r + r)
+      (Closing (Plane r) (stageIn t (k * r) r) (stageIn t (k * r + r) r) (run .threshold)) n) where
+    paste-is : copied ≡ paste grid (takenOf run) column (length column)
+    paste-is = ec ∙ ap (λ (x : ℕ). paste grid x column (length column)) product
+
+    loaded-is : Loaded s t (paste grid (takenOf run) column (length column)) (takenOf run + run .rows)
+    loaded-is = subst₂ (Loaded s t) paste-is (ap₂ (λ (x y : ℕ). x + y) product er) loaded
+
+    made-is : Answered t left (takenOf run + run .rows)
+        (Closing (Plane (run .rows)) (stageIn t (takenOf run) (run .rows)) (stageIn t (takenOf run + run .rows) (run .rows)) (run .threshold)) n
+    made-is = rw (er, ek) at made
+
+    pub code-short : room < n → FlatColumn run column grid copied work room left run (Refused (Table n))
+    code-short l =
+        subst (λ (c : List ℤ). FlatColumn run column grid c work room left run (Refused (Table n))) (sym paste-is)
+        (column-short run column grid work room left g loaded-is made-is refl l)
+
+    pub code-count : n ≤ room
+        → FlatColumn run column grid copied work room left
+        (record { rows = run .rows; columns = run .columns + 1; threshold = run .threshold; ended = run .ended }) (Count n)
+    code-count l =
+        subst (λ (c : List ℤ). FlatColumn run column grid c work room left
+        (record { rows = run .rows; columns = run .columns + 1; threshold = run .threshold; ended = run .ended }) (Count n))
+        (sym paste-is) (column-count run column grid work room left g loaded-is made-is refl l)
+
+module _ (run : Run) (grid : List ℤ) (work room : ℕ) (left : List ℕ) (g : GoodEnd run (length grid) work)
+    {r k : ℕ} (er : r ≡ run .rows) (ek : k ≡ run .columns) where
+  end-product : k * r ≡ takenOf run
+  end-product = ap₂ (λ (x y : ℕ). x * y) ek er
+
+  pub end-sum : k * r ≤ 1048576
+  end-sum = let e = end-product in let h = g .cells in omega arith
+
+  pub end-loading : {bytes : List ℕ} → length bytes ≡ work → Loading bytes grid (k * r)
+  end-loading e =
+      let p = end-product in
+      record {
+        area = record { few = let c = g .cells in omega arith; room = let s = g .space in omega arith };
+        all = let f = g .fits in omega arith;
+      }
+
+  pub end-surveying : {bytes t : List ℕ} {heights : List ℤ} → length bytes ≡ work → Loaded bytes t heights (k * r)
+      → Surveying t (k * r) r
+  end-surveying e h =
+      let p = end-product in
+      let l = h .len in
+      record {
+        area = record { few = let c = g .cells in omega arith; room = let s = g .space in omega arith };
+        rows-some = let i = g .some in omega arith;
+        rows-few = let i = g .few in omega arith;
+      }
+
+  module _ {s t : List ℕ} {n : ℕ} (loaded : Loaded s t grid (k * r))
+      (made : Answered t left (k * r) (Remaining (Plane r) (stageIn t (k * r) r) (run .threshold)) n) where
+    pub end-code-short : room < n → FlatEnd run grid work room left run (Refused (Table n))
+    end-code-short l =
+        end-short run grid grid work room left g (rw (er, ek) at loaded) (rw (er, ek) at made) refl l
+
+    pub end-code-count : n ≤ room
+        → FlatEnd run grid work room left
+        (record { rows = run .rows; columns = run .columns; threshold = run .threshold; ended = true }) (Count n)
+    end-code-count l =
+        end-count run grid grid work room left g (rw (er, ek) at loaded) (rw (er, ek) at made) refl l
