@@ -1,2 +1,4 @@
 pub mod Checks
 pub mod Columns
+pub mod Sessions
+pub mod Claims

@@ -1,0 +1,36 @@
+-- What is claimed of the calls of a run beyond their contracts.
+--     ColumnUnique, EndUnique    the promises allow one answer, one record, one grid and one row of records
+--     SessionHolds               demand 3, from the promises of the calls
+-- Assumes nothing.
+use mathlib.Core.Path.{_≡_}
+use mathlib.Core.List.{List}
+use Prim.Native.Nat.{ℕ}
+use lib.IntN.{ℤ}
+use lib.ListN.{take}
+use Rattle.relief.specs.Peaks.{Entry}
+use Rattle.record.specs.declared.Peak.{Peak}
+use Rattle.run.specs.declared.Run.{Run}
+use Rattle.run.specs.declared.Handed.{Handed}
+use Rattle.run.specs.declared.Handed.the-variants.{Count}
+use Rattle.run.specs.Running.{takenOf, Columns, Ends}
+use Rattle.run.specs.Sessions.{Calls, HoldsList}
+
+abbrev pub ColumnUnique : Type 0
+ColumnUnique = (run run′ run″ : Run) (column grid g h : List ℤ) (work : ℕ) (table t u : List Peak) (a b : Handed)
+    → Columns run column grid g work table t run′ a → Columns run column grid h work table u run″ b
+    → (a ≡ b) × (run′ ≡ run″) × (g ≡ h) × (t ≡ u)
+
+abbrev pub EndUnique : Type 0
+EndUnique = (run run′ run″ : Run) (grid : List ℤ) (work : ℕ) (table t u : List Peak) (a b : Handed)
+    → Ends run grid work table t run′ a → Ends run grid work table u run″ b → (a ≡ b) × (run′ ≡ run″) × (t ≡ u)
+
+-- From Start to an accepted End.
+abbrev pub SessionHolds : Type 0
+SessionHolds = (run run′ : Run) (cells grid : List ℤ) (batches : List (List Entry)) (work n : ℕ) (table table′ : List Peak)
+    → Calls run cells batches → take (takenOf run) grid ≡ cells → (e : Ends run grid work table table′ run′ (Count n))
+    → HoldsList (run .rows) (run .threshold) cells batches (e .rest)
+
+pub record Claims : Type 0 where
+  pub column-unique : ColumnUnique
+  pub end-unique : EndUnique
+  pub session-holds : SessionHolds

@@ -1,0 +1,44 @@
+-- From Start to End: "if each call gets the run record last returned and no taken cell is changed".
+--     Calls run cells batches     the calls so far gave the record `run`, took the cells `cells` and handed out `batches`
+--     HoldsList                   batches and rest hold just the list of the cells, each peak once
+-- It is over the promises of the calls, and mentions no code. Assumes nothing.
+use mathlib.Core.Path.{_≡_}
+use mathlib.Core.List.{List, [], _∷_, _++_}
+use mathlib.Core.Logic.{_⊎_, _↔_}
+use Prim.Native.Nat.{ℕ, suc, _<_}
+use lib.IntN.{ℤ}
+use lib.ListN.{length, take, getD}
+use Rattle.relief.specs.Heights.{levels}
+use Rattle.relief.specs.Peaks.{Entry}
+use Rattle.relief.specs.Lists.{Member, ListOf}
+use Rattle.relief.specs.Runs.{Batch}
+use Rattle.relief.specs.Plane.{Plane, stageOf}
+use Rattle.record.specs.declared.Peak.{Peak}
+use Rattle.record.specs.declared.Refusal.{Refusal}
+use Rattle.run.specs.declared.Run.{Run}
+use Rattle.run.specs.declared.Started.the-variants as Started
+use Rattle.run.specs.declared.Handed.the-variants.{Count, Refused}
+use Rattle.run.specs.Running.{takenOf, startAnswer, Columns}
+
+-- Refused calls may stand between accepted ones, with any grid that still holds the taken cells.
+pub data Calls : Run → List ℤ → List (List Entry) → Type 0 where
+  started : {run : Run} (rows T : ℕ) → startAnswer rows T ≡ Started.Begun run → Calls run [] []
+  accepted : {run run′ : Run} {cells column grid grid′ : List ℤ} {batches : List (List Entry)} {work n : ℕ} {table table′ : List Peak}
+      → Calls run cells batches → take (takenOf run) grid ≡ cells
+      → (c : Columns run column grid grid′ work table table′ run′ (Count n))
+      → Calls run′ (cells ++ column) (batches ++ (c .batch ∷ []))
+  refused : {run run′ : Run} {cells column grid grid′ : List ℤ} {batches : List (List Entry)} {work : ℕ} {table table′ : List Peak}
+      {r : Refusal} → Calls run cells batches → take (takenOf run) grid ≡ cells
+      → Columns run column grid grid′ work table table′ run′ (Refused r) → Calls run′ cells batches
+
+-- The j-th batch is what the call that took the j-th column closed. "The batches from start to end hold just the whole
+-- run's list, each peak once."
+pub record HoldsList (rows T : ℕ) (cells : List ℤ) (batches : List (List Entry)) (rest : List Entry) : Type 0 where
+  pub closes : (j : ℕ) → j < length batches
+      → Batch (Plane rows) (stageOf rows j cells) (stageOf rows (suc j) cells) T (getD batches j [])
+  pub hold : (l : List Entry) → ListOf (Plane rows) (levels cells) T l → (e : Entry)
+      → Member e l ↔ (((j : ℕ) × (j < length batches) × Member e (getD batches j [])) ⊎ Member e rest)
+  pub once : (i j : ℕ) (e e′ : Entry) → i < j → j < length batches → Member e (getD batches i [])
+      → Member e′ (getD batches j []) → e .cell ≡ e′ .cell → ⊥
+  pub last : (i : ℕ) (e e′ : Entry) → i < length batches → Member e (getD batches i []) → Member e′ rest
+      → e .cell ≡ e′ .cell → ⊥

@@ -1,0 +1,97 @@
+-- The run file's bytes: section "Run file" of document 01.
+--     bitsOf z, signedOf w                      a signed 32-bit number in two's complement, and back
+--     wordOf v, bytesOf vs                      the four bytes of a 32-bit number, the bytes of a row of them
+--     totalOf cells n                           the length of a file
+--     headerOf rows cells n                     the six numbers of the header
+--     recordOf p, recordsOf ps                  the four numbers of a record, and those of a row of records
+--     numbersOf rows heights records            the 32-bit numbers of a file, in their order
+--     fileOf rows heights records               its bytes
+--     rowsIn f, columnsIn f, peaksIn f, cellsIn f    what a file's header says
+--     heightsIn f n                             the first n heights of a file
+--     recordIn f cells i, recordsIn f cells n   the i-th record of a file of so many cells, and the first n of them
+-- A file read is a list of bytes, and wordAt f i its i-th number. Assumes nothing.
+use mathlib.Core.Bool.{true, false}
+use mathlib.Core.List.{List, [], _∷_, _++_, map, flatMap}
+use Prim.Native.Nat.{ℕ, zero, suc, _+_, _-_, _*_, _/_, _%_}
+use lib.Dec.{ltb}
+use lib.IntN.{ℤ, pos, negsuc}
+use lib.ListN.{length}
+use Rattle.words.specs.Words.{wordAt}
+use Rattle.record.specs.declared.Peak.{Peak}
+
+-- ---- numbers
+
+-- "Heights and key heights are signed 32-bit two's complement" (`negsuc n` is -(n + 1)).
+unfoldable pub bitsOf : ℤ → ℕ
+bitsOf (pos n) = n
+bitsOf (negsuc n) = 4294967295 - n
+
+unfoldable pub signedOf : ℕ → ℤ
+signedOf w = elim (ltb w 2147483648) [ true ↦ pos w | false ↦ negsuc (4294967295 - w) ]
+
+-- "unsigned 32-bit little-endian", "all is little-endian"
+unfoldable pub wordOf : ℕ → List ℕ
+wordOf v = (v % 256) ∷ (v / 256 % 256) ∷ (v / 65536 % 256) ∷ (v / 16777216) ∷ []
+
+abbrev pub bytesOf : List ℕ → List ℕ
+bytesOf vs = flatMap wordOf vs
+
+-- ---- a file written
+
+-- "20 total length (offset of peaks + 16n)", with "16 offset of peaks (24 + 4 x cells)"
+abbrev pub totalOf : ℕ → ℕ → ℕ
+totalOf cells n = 24 + 4 * cells + 16 * n
+
+-- "byte 0 rows, 4 columns, 8 number of peaks n, 12 offset of heights (24), 16 offset of peaks (24 + 4 x cells), 20
+-- total length (offset of peaks + 16n)"
+unfoldable pub headerOf : ℕ → ℕ → ℕ → List ℕ
+headerOf rows cells n = rows ∷ (cells / rows) ∷ n ∷ 24 ∷ (24 + 4 * cells) ∷ totalOf cells n ∷ []
+
+-- "A record holds cell, height, key height, pass cell."
+unfoldable pub recordOf : Peak → List ℕ
+recordOf p = p .cell ∷ bitsOf (p .height) ∷ bitsOf (p .key) ∷ p .pass ∷ []
+
+-- "n records of 16 bytes, fields in the order above"
+abbrev pub recordsOf : List Peak → List ℕ
+recordsOf ps = flatMap recordOf ps
+
+-- "A header of counts and offsets [..]. Then the heights in reading order, then n records"
+unfoldable pub numbersOf : ℕ → List ℤ → List Peak → List ℕ
+numbersOf rows heights records =
+    headerOf rows (length heights) (length records) ++ map bitsOf heights ++ recordsOf records
+
+unfoldable pub fileOf : ℕ → List ℤ → List Peak → List ℕ
+fileOf rows heights records = bytesOf (numbersOf rows heights records)
+
+-- ---- a file read
+
+abbrev pub rowsIn : List ℕ → ℕ
+rowsIn f = wordAt f 0
+
+abbrev pub columnsIn : List ℕ → ℕ
+columnsIn f = wordAt f 1
+
+abbrev pub peaksIn : List ℕ → ℕ
+peaksIn f = wordAt f 2
+
+abbrev pub cellsIn : List ℕ → ℕ
+cellsIn f = rowsIn f * columnsIn f
+
+-- The header has six numbers.
+unfoldable pub heightsIn : List ℕ → ℕ → List ℤ
+heightsIn f zero = []
+heightsIn f (suc i) = heightsIn f i ++ (signedOf (wordAt f (6 + i)) ∷ [])
+
+unfoldable pub recordIn : List ℕ → ℕ → ℕ → Peak
+recordIn f cells i =
+    let at = 6 + cells + 4 * i in
+    record {
+      cell = wordAt f at;
+      height = signedOf (wordAt f (at + 1));
+      key = signedOf (wordAt f (at + 2));
+      pass = wordAt f (at + 3);
+    }
+
+unfoldable pub recordsIn : List ℕ → ℕ → ℕ → List Peak
+recordsIn f cells zero = []
+recordsIn f cells (suc i) = recordsIn f cells i ++ (recordIn f cells i ∷ [])
