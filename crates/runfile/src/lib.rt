@@ -57,7 +57,7 @@ fn narrow(v: usize) -> u32
 }
 
 // The cells of a grid. The product of two 32-bit numbers is made in 64 bits.
-fn cells_of(rows: u32, columns: u32) -> usize
+pub fn cells_of(rows: u32, columns: u32) -> usize
     ensures { λ r. ⌜ r ≡ rows * columns ⌝ }
 {
     index(rows) * index(columns)
@@ -443,8 +443,8 @@ fn records_to_take(answer: ReadBack) -> usize
     }
 }
 
-// Decides the answer of `read` and, unless it is a refusal, fills in the heights.
-fn take_grid(file: &[u8], heights: &mut [i32], table: usize) -> ReadBack
+// Reading without the table, of which only the room counts: the answer and, unless it is a refusal, the heights.
+pub fn take_grid(file: &[u8], heights: &mut [i32], table: usize) -> ReadBack
     ensures { λ r. ⌜ GridTaken (now (file .entry)) (now (heights .entry)) (now (heights .exit)) table r ⌝ }
 {
     let answer = judge(file, heights.len(), table);
