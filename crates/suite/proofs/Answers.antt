@@ -1,0 +1,129 @@
+-- The answers of the C entry, at each of its returns in the code's order.
+--     suite-no-rows, suite-many-rows, suite-length, suite-cells, suite-work     refused before the list is made
+--     Accepted                                                                  the tests that no refusal before 5 met
+--     suite-short, suite-count                                                  what is answered once it is made
+-- Each return adds the outcome of one test, so that the answer's tests compute. The list is there whatever is refused.
+-- Assumes nothing.
+use mathlib.Core.Path.{_≡_, refl, sym, _∙_, ap}
+use mathlib.Core.List.{List, _++_}
+use Prim.Native.Nat.{ℕ, _*_, _/_, _%_, _≤_, _<_}
+use lib.Dec.{ltb}
+use lib.IntN.{ℤ, pos, negsuc}
+use lib.ListN.{length, drop}
+use borrow.Author.Tests.{eq-eqb, ne-eqb, lt-ltb, le-ltb}
+use Rattle.relief.specs.Heights.{levels}
+use Rattle.relief.specs.Peaks.{Listed}
+use Rattle.relief.specs.Plane.{Plane}
+use Rattle.relief.proofs.Surveying.{survey, survey-list}
+use Rattle.relief.proofs.Plane.{plane?}
+use Rattle.relief.proofs.Grids.{plane-terrain}
+use Rattle.record.specs.declared.Peak.{Peak}
+use Rattle.words.specs.Area.{levelIn}
+use Rattle.sweep.specs.Taking.{cut}
+use Rattle.runfile.specs.Layout.{bytesOf, recordsOf}
+use Rattle.survey.specs.Answers.{entriesIn, Loaded, Answered}
+use Rattle.survey.proofs.Recording.{places-record, places-length}
+use Rattle.suite.specs.Entry.{heightsOf, pickNumber, suiteAnswer, suiteTable, SuiteLists}
+use Rattle.suite.proofs.Heights.{loaded-levels}
+use Rattle.suite.proofs.Putting.{recordBytes}
+
+-- ---- refused before the list is made
+
+module _ (rows : ℕ) (heights : List ℕ) (T work : ℕ) (table : List ℕ) where
+  -- the list is there all the same
+  refused-early : {k : ℕ} → ((needed : ℕ) → negsuc k ≡ suiteAnswer rows (length heights) work (length table) needed)
+      → SuiteLists rows heights T work table table (negsuc k)
+  refused-early e =
+      let hs = heightsOf heights (length heights / 4) in
+      let list = survey (plane? rows) (levels hs) (length hs) T in
+      record { list = list; right = survey-list (plane-terrain rows hs) T; answered = e (length list); filled = refl }
+
+  pub suite-no-rows : rows ≡ 0 → SuiteLists rows heights T work table table (negsuc 0)
+  unfolding suiteAnswer
+  suite-no-rows e = refused-early (λ k. simp (eq-eqb rows 0 e))
+
+  module _ (some : rows ≡ 0 → ⊥) where
+    pub suite-many-rows : 1024 < rows → SuiteLists rows heights T work table table (negsuc 0)
+    unfolding suiteAnswer
+    suite-many-rows l = refused-early (λ k. simp (ne-eqb rows 0 some, lt-ltb 1024 rows l))
+
+    module _ (few : rows ≤ 1024) where
+      pub suite-length : (length heights % (4 * rows) ≡ 0 → ⊥) → SuiteLists rows heights T work table table (negsuc 1)
+      unfolding suiteAnswer
+      suite-length d = refused-early (λ k. simp (
+        ne-eqb rows 0 some,
+        le-ltb 1024 rows few,
+        ne-eqb (length heights % (4 * rows)) 0 d,
+      ))
+
+      module _ (whole : length heights % (4 * rows) ≡ 0) where
+        pub suite-cells : 1048576 < length heights / 4 → SuiteLists rows heights T work table table (negsuc 2)
+        unfolding suiteAnswer
+        suite-cells l = refused-early (λ k. simp (
+          ne-eqb rows 0 some,
+          le-ltb 1024 rows few,
+          eq-eqb (length heights % (4 * rows)) 0 whole,
+          lt-ltb 1048576 (length heights / 4) l,
+        ))
+
+        module _ (fits : length heights / 4 ≤ 1048576) where
+          pub suite-work : work < 16 * (length heights / 4) → SuiteLists rows heights T work table table (negsuc 3)
+          unfolding suiteAnswer
+          suite-work l = refused-early (λ k. simp (
+            ne-eqb rows 0 some,
+            le-ltb 1024 rows few,
+            eq-eqb (length heights % (4 * rows)) 0 whole,
+            le-ltb 1048576 (length heights / 4) fits,
+            lt-ltb work (16 * (length heights / 4)) l,
+          ))
+
+-- ---- the list is made
+
+-- the tests that were passed before
+pub record Accepted (rows : ℕ) (heights : List ℕ) (work : ℕ) : Type 0 where
+  pub some : rows ≡ 0 → ⊥
+  pub few : rows ≤ 1024
+  pub whole : length heights % (4 * rows) ≡ 0
+  pub fits : length heights / 4 ≤ 1048576
+  pub space : 16 * (length heights / 4) ≤ work
+
+module _ {rows : ℕ} {heights : List ℕ} {work : ℕ} (h : Accepted rows heights work) (table k : ℕ) where
+  accepted-answer : suiteAnswer rows (length heights) work table k ≡ pickNumber (ltb (table / 16) k) (negsuc 4) (pos k)
+  unfolding suiteAnswer
+  accepted-answer = simp (
+    ne-eqb rows 0 (h .some),
+    le-ltb 1024 rows (h .few),
+    eq-eqb (length heights % (4 * rows)) 0 (h .whole),
+    le-ltb 1048576 (length heights / 4) (h .fits),
+    le-ltb work (16 * (length heights / 4)) (h .space),
+  )
+
+  answer-short : table / 16 < k → negsuc 4 ≡ suiteAnswer rows (length heights) work table k
+  answer-short l = sym (accepted-answer ∙ rw (lt-ltb (table / 16) k l))
+
+  answer-count : k ≤ table / 16 → pos k ≡ suiteAnswer rows (length heights) work table k
+  answer-count l = sym (accepted-answer ∙ rw (le-ltb (table / 16) k l))
+
+module _ {rows : ℕ} {heights : List ℕ} {T work : ℕ} (table : List ℕ) {s t left : List ℕ} {k : ℕ}
+    (h : Accepted rows heights work) (loaded : Loaded s t (heightsOf heights (length heights / 4)) (length heights / 4))
+    (made : Answered t left (length heights / 4) (Listed (Plane rows) (cut (length heights / 4) (levelIn t)) T) k) where
+  listed : {table′ : List ℕ} {a : ℤ} → a ≡ suiteAnswer rows (length heights) work (length table) k
+      → table′ ≡ suiteTable a (entriesIn left (length heights / 4) k) table
+      → SuiteLists rows heights T work table table′ a
+  listed e f = record {
+    list = entriesIn left (length heights / 4) k;
+    right = rw (← loaded-levels heights loaded) (made .order);
+    answered = e ∙ ap (suiteAnswer rows (length heights) work (length table)) (sym (places-length _ k));
+    filled = f;
+  }
+
+  pub suite-short : length table / 16 < k → SuiteLists rows heights T work table table (negsuc 4)
+  suite-short l = listed (answer-short h (length table) k l) refl
+
+  pub suite-count : {table′ : List ℕ} → k ≤ length table / 16
+      → table′ ≡ recordBytes left (length heights / 4) k ++ drop (16 * k) table
+      → SuiteLists rows heights T work table table′ (pos k)
+  suite-count l f =
+      listed (answer-count h (length table) k l)
+      (f ∙ ap (λ (ps : List Peak). bytesOf (recordsOf ps) ++ drop (16 * k) table)
+      (places-record left (length heights / 4) k))

@@ -1,0 +1,5 @@
+mod Heights
+mod Bytes
+mod Putting
+mod Answers
+pub mod Claims

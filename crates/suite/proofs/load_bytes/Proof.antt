@@ -1,0 +1,70 @@
+-- `suite::load_bytes` meets its contract. The invariant is that of `survey::load`, over the heights of the lent bytes:
+-- so many levels stand in the first quarter. A turn reads a number, flips it to its level and stores that. What is left
+-- of the cells falls. Assumes nothing.
+use Prim.Native.Nat.{_-_}
+use native.Mathlib.Omega.{arith}
+use denote.Ref.{now}
+use Rattle.survey.proofs.Marking.{Loads, loads-start, loads-done}
+use Rattle.suite.specs.Entry.{heightsOf}
+use Rattle.suite.proofs.Heights.{loads-flip}
+use Rattle.suite.proofs.load_bytes.Statement.{statement}
+use Rattle.suite.proofs.load_bytes.Tie as tie
+
+abbrev Inv-loop : tie.InvT-loop
+Inv-loop work₀ heights n c₀ work c = Loads work₀ work (heightsOf heights n) n c
+
+abbrev μ-loop : tie.MeasureT-loop
+μ-loop work₀ heights n c₀ work c = n - c
+
+loop-holds : tie.Need-loop-holds Inv-loop μ-loop
+loop-holds c =
+    let a = c .before .before .args in
+    loads-start (now (a .work)) (heightsOf (now (a .heights)) (a .n)) (a .n)
+
+get-requires : tie.Need-get-requires Inv-loop μ-loop
+get-requires c κs = omega arith
+
+flip-requires : tie.Need-flip-requires Inv-loop μ-loop
+flip-requires c κs = tt
+
+put-requires : tie.Need-put-requires Inv-loop μ-loop
+put-requires c κs =
+    let at-loop = c .before .before .before .before in
+    omega (arith, at-loop .before .before .before .pre .0 .room, at-loop .loop .inv .len)
+
+add-c : tie.Need-add-c Inv-loop μ-loop
+add-c c = omega arith
+
+loop-less : tie.Need-loop-less Inv-loop μ-loop
+loop-less c = omega arith
+
+loop-again : tie.Need-loop-again Inv-loop μ-loop
+loop-again c =
+    let at-put = c .before .before in
+    let at-get = at-put .before .before in
+    let at-test = at-get .before .before in
+    let at-loop = at-test .before in
+    loads-flip (now (at-loop .before .before .before .args .heights)) (at-loop .loop .inv)
+    (at-test .loop-test .taken) (at-get .get .ensures) (at-put .before .flip .ensures .0) (at-put .put .ensures)
+
+same-length : tie.Need-same-length Inv-loop μ-loop
+same-length c = c .before .loop .inv .len
+
+returns : tie.Need-returns Inv-loop μ-loop
+returns c = loads-done (c .before .loop .inv) (c .loop-test .left)
+
+pub load-bytes-spec : {M : Type 1} → statement M
+load-bytes-spec =
+    tie.close
+    (tie.spec
+    Inv-loop
+    μ-loop
+    loop-holds
+    get-requires
+    flip-requires
+    put-requires
+    add-c
+    loop-less
+    loop-again
+    same-length
+    returns)

@@ -1,0 +1,65 @@
+-- `suite::put_records` meets its contract. The invariant: the table is the bytes of the records put so far, and then
+-- what it was behind them. A turn stores the next record at that seam. What is left of the count falls.
+-- Assumes nothing.
+use Prim.Native.Nat.{_-_}
+use native.Mathlib.Omega.{arith}
+use denote.Ref.{now}
+use Rattle.table.proofs.Laws.{counted-pointed}
+use Rattle.suite.proofs.Putting.{Puts, puts-start, puts-length, puts-step, puts-done}
+use Rattle.suite.proofs.put_records.Statement.{statement}
+use Rattle.suite.proofs.put_records.Tie as tie
+
+abbrev Inv-loop : tie.InvT-loop
+Inv-loop table₀ work n count i₀ table i = Puts table₀ work n count table i
+
+abbrev μ-loop : tie.MeasureT-loop
+μ-loop table₀ work n count i₀ table i = count - i
+
+loop-holds : tie.Need-loop-holds Inv-loop μ-loop
+loop-holds c = let a = c .before .before .args in puts-start (now (a .table)) (now (a .work)) (a .n) (a .count)
+
+record-at-requires : tie.Need-record-at-requires Inv-loop μ-loop
+record-at-requires c κs =
+    let at-loop = c .before .before in
+    counted-pointed (at-loop .before .before .before .pre .0) (at-loop .loop .i) (c .before .loop-test .taken)
+
+put-record-requires : tie.Need-put-record-requires Inv-loop μ-loop
+put-record-requires c κs =
+    let at-loop = c .before .before .before in
+    let room = at-loop .before .before .before .pre .1 in
+    omega (arith, puts-length room (at-loop .loop .inv))
+
+add-i : tie.Need-add-i Inv-loop μ-loop
+add-i c = omega arith
+
+loop-less : tie.Need-loop-less Inv-loop μ-loop
+loop-less c = omega arith
+
+loop-again : tie.Need-loop-again Inv-loop μ-loop
+loop-again c =
+    let at-put = c .before .before in
+    let at-test = at-put .before .before .before in
+    let at-loop = at-test .before in
+    puts-step (at-loop .before .before .before .pre .1) (at-loop .loop .inv) (at-test .loop-test .taken)
+    (at-put .before .record-at .ensures) (at-put .put-record .ensures)
+
+same-length : tie.Need-same-length Inv-loop μ-loop
+same-length c = puts-length (c .before .before .before .before .pre .1) (c .before .loop .inv)
+
+returns : tie.Need-returns Inv-loop μ-loop
+returns c = puts-done (c .before .loop .inv) (c .loop-test .left)
+
+pub put-records-spec : {M : Type 1} → statement M
+put-records-spec =
+    tie.close
+    (tie.spec
+    Inv-loop
+    μ-loop
+    loop-holds
+    record-at-requires
+    put-record-requires
+    add-i
+    loop-less
+    loop-again
+    same-length
+    returns)

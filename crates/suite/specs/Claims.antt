@@ -1,0 +1,21 @@
+-- What is claimed of the C entry beyond its contract.
+--     SuiteUnique     two answers that the promise allows are equal, and so are two tables
+--     Claims          all of these
+-- Assumes nothing.
+use mathlib.Core.Path.{_≡_}
+use mathlib.Core.List.{List}
+use Prim.Native.Nat.{ℕ}
+use lib.IntN.{ℤ}
+use Rattle.suite.specs.Entry.{SuiteLists}
+
+-- "Each public call's promise determines its answer and everything it was lent, on all inputs, refusals too; two
+-- answers allowed by it are shown equal."
+abbrev pub SuiteUnique : Type 0
+SuiteUnique =
+    (rows : ℕ) (heights : List ℕ) (T work : ℕ) (table t u : List ℕ) (a b : ℤ)
+    → SuiteLists rows heights T work table t a
+    → SuiteLists rows heights T work table u b
+    → (a ≡ b) × (t ≡ u)
+
+pub record Claims : Type 0 where
+  pub suite-unique : SuiteUnique

@@ -1,0 +1,61 @@
+-- The C entry: the last paragraph of section "What comes back" of document 01, over the layouts of "Run file".
+--     heightsOf f n        the first n heights of the bytes f
+--     pickNumber b u v     u where the test passes, else v
+--     suiteAnswer          the answer, by the tests in the paper's order
+--     suiteTable           the bytes of the table after the call
+--     SuiteLists           the promise of the call: it determines the answer and the table on all inputs
+-- A height has 4 bytes, a record 16. Assumes nothing.
+use mathlib.Core.Path.{_≡_}
+use mathlib.Core.Bool.{Bool, true, false, not}
+use mathlib.Core.List.{List, [], _∷_, _++_, map}
+use Prim.Native.Nat.{ℕ, zero, suc, _*_, _/_, _%_}
+use lib.Dec.{eqb, ltb}
+use lib.IntN.{ℤ, pos, negsuc}
+use lib.ListN.{length, drop}
+use Rattle.relief.specs.Heights.{levels}
+use Rattle.relief.specs.Peaks.{Entry}
+use Rattle.relief.specs.Lists.{ListOf}
+use Rattle.relief.specs.Plane.{Plane}
+use Rattle.relief.proofs.Deciding.{either}
+use Rattle.record.specs.Records.{recordOf}
+use Rattle.words.specs.Words.{wordAt}
+use Rattle.runfile.specs.Layout.{signedOf, bytesOf, recordsOf}
+
+-- "passes heights and records as bytes, in the file's layouts": "Heights and key heights are signed 32-bit two's
+-- complement; all is little-endian."
+unfoldable pub heightsOf : List ℕ → ℕ → List ℤ
+heightsOf f zero = []
+heightsOf f (suc i) = heightsOf f i ++ (signedOf (wordAt f i) ∷ [])
+
+-- the first number where the test passes, else the second
+abbrev pub pickNumber : Bool → ℤ → ℤ → ℤ
+pickNumber true a b = a
+pickNumber false a b = b
+
+-- "answers one signed number, the record count or minus the refusal number" (`negsuc n` is -(n + 1)). "List: 1, 2, 3,
+-- 4, 5." `needed` is in records, the lengths are in bytes.
+unfoldable pub suiteAnswer : ℕ → ℕ → ℕ → ℕ → ℕ → ℤ
+suiteAnswer rows bytes work table needed =
+    -- "rows are 0 or above 1,024"
+    pickNumber (either (eqb rows 0) (ltb 1024 rows)) (negsuc 0)
+    -- "length of heights is no multiple of [..] 4 x rows bytes"
+    (pickNumber (not (eqb (bytes % (4 * rows)) 0)) (negsuc 1)
+    -- "more than 1,048,576 cells"
+    (pickNumber (ltb 1048576 (bytes / 4)) (negsuc 2)
+    -- "work area below 4 numbers of 32 bits per cell": "Its work area is bytes, 16 per cell"
+    (pickNumber (ltb work (16 * (bytes / 4))) (negsuc 3)
+    -- "peak table too short": "its table counts as many records as fit whole"
+    (pickNumber (ltb (table / 16) needed) (negsuc 4) (pos needed)))))
+
+-- "A refusal [..] writes nothing"; "On success [..] bytes [..] beyond those counted stay as they were."
+abbrev pub suiteTable : ℤ → List Entry → List ℕ → List ℕ
+suiteTable (pos n) list table = bytesOf (recordsOf (map recordOf list)) ++ drop (16 * n) table
+suiteTable (negsuc n) list table = table
+
+-- The list of the definition is there for every grid and is one (`ListExists`, `OrderUnique` of `relief`). The heights
+-- are lent to be read, and the work area's contents are left open (docs/EXCEPTIONS.md).
+pub record SuiteLists (rows : ℕ) (heights : List ℕ) (T work : ℕ) (table table′ : List ℕ) (answer : ℤ) : Type 0 where
+  pub list : List Entry
+  pub right : ListOf (Plane rows) (levels (heightsOf heights (length heights / 4))) T list
+  pub answered : answer ≡ suiteAnswer rows (length heights) work (length table) (length list)
+  pub filled : table′ ≡ suiteTable answer list table
