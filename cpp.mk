@@ -1,0 +1,128 @@
+# The C++ side: the header's check, the example, the test of the C entry, the benchmark.
+#
+#     cpp-test          cpp-header, cpp-example, cpp-suite and cpp-small
+#     cpp-header        the header compiles as C99 and as C++17, by itself
+#     cpp-example       builds and runs the example, and compares what it prints
+#     cpp-suite         builds and runs the hard test of the C entry
+#     cpp-small         library and reference agree on small grids
+#     cpp-bench         times the library against the reference; under an emulator it is cpp-instructions
+#     cpp-instructions  instructions per cell of library and reference, counted by the emulator
+#     cpp-tools         installs what cpp-test and cpp-bench need and the machine lacks, by apt-get
+#
+# The archive that rt writes is for x86-64. There the programs run directly; on another processor a cross compiler
+# builds them and qemu's user emulation runs them. Everything that is built goes to target/cpp.
+#
+#     CPP_MACHINE   the processor to choose by, unless it is to be this machine's
+#     CPP_LIBRARY   the archive of the C entry, unless it is to be the one that rt writes
+
+CPP_MACHINE ?= $(shell uname -m)
+CPP_LIBRARY ?= target/staticlib/libsuite.a
+CPP_OUT := target/cpp
+CPP_FLAGS := -std=c++17 -O2 -Wall -Wextra -Wpedantic -Iinclude
+
+# What depends on a tool is worked out when it is used, so that `make cpp-tools cpp-test` finds what was installed.
+CPP_EMULATOR = $(shell command -v qemu-x86_64 || command -v qemu-x86_64-static || echo qemu-x86_64)
+
+# CPP_NEEDED has a word for each tool: the command, and Debian's package that has it.
+ifeq ($(CPP_MACHINE),x86_64)
+CPP_CXX = $(CXX)
+CPP_EMULATE = $(CPP_EMULATOR)
+CPP_RUN =
+CPP_NEEDED = $(CXX):g++
+CPP_SANITIZE := -g -fsanitize=address,undefined -fno-sanitize-recover=all
+CPP_PART :=
+CPP_HOW :=
+else
+CPP_CXX = x86_64-linux-gnu-g++
+# The cross compiler's C library takes the place of /lib.
+CPP_EMULATE = $(CPP_EMULATOR) -L $(dir $(realpath $(shell $(CPP_CXX) -print-file-name=libc.so.6)))..
+CPP_RUN = $(CPP_EMULATE)
+CPP_NEEDED = $(CPP_CXX):g++-x86-64-linux-gnu $(CPP_EMULATOR):qemu-user $(CXX):g++
+# Without the address sanitizer: its map of all memory eats up the machine's under the emulator. The pages and bytes
+# that guard what the hard test lends work there as they do on x86-64.
+CPP_SANITIZE := -g -fsanitize=undefined -fno-sanitize-recover=all
+# Of its small grids the hard test takes one in so many, to be done in a minute and not in several.
+CPP_PART := 7
+CPP_HOW := , emulated
+endif
+
+.PHONY: cpp-test cpp-header cpp-example cpp-suite cpp-small cpp-bench cpp-instructions cpp-tools cpp-ready cpp-always
+
+cpp-test: cpp-header cpp-example cpp-suite cpp-small
+
+cpp-header: | cpp-ready
+	@$(CPP_CXX) -x c -std=c99 -Wall -Wextra -Wpedantic -Werror -fsyntax-only include/mayexoton.h
+	@$(CPP_CXX) -x c++ -std=c++17 -Wall -Wextra -Wpedantic -Werror -fsyntax-only include/mayexoton.h
+	@echo "header: compiles as C99 and as C++17"
+
+cpp-example: $(CPP_OUT)/example
+	@$(CPP_RUN) $< > $(CPP_OUT)/example.out
+	@diff examples/suite/expected $(CPP_OUT)/example.out
+	@echo "example$(CPP_HOW): prints what is expected"
+
+cpp-suite: $(CPP_OUT)/suite_test
+	@printf 'hard test$(CPP_HOW): '
+	@$(CPP_RUN) $< $(CPP_PART)
+
+cpp-small: $(CPP_OUT)/bench
+	@printf 'benchmark$(CPP_HOW): '
+	@$(CPP_RUN) $< --small
+
+ifeq ($(CPP_MACHINE),x86_64)
+cpp-bench: $(CPP_OUT)/bench
+	@$<
+else
+cpp-bench: cpp-instructions
+endif
+
+# An emulator that was linked statically takes no plugin; the benchmark then has no counter, and says so. The processor
+# is named because newer ones move memory by instructions that the emulator counts anew for each byte.
+cpp-instructions: $(CPP_OUT)/bench $(CPP_OUT)/example $(CPP_OUT)/libcounter.so
+	@command -v $(CPP_EMULATOR) > /dev/null || { echo "qemu-x86_64 is missing; Debian: qemu-user" >&2; exit 1; }
+	@plugin='-plugin $(CPP_OUT)/libcounter.so'; \
+	$(CPP_EMULATE) $$plugin $(CPP_OUT)/example > $(CPP_OUT)/plugin.log 2>&1 || plugin=; \
+	$(CPP_EMULATE) -cpu qemu64 $$plugin $(CPP_OUT)/bench --work
+
+$(CPP_OUT)/example: examples/suite/example.cpp include/mayexoton.h $(CPP_OUT)/libsuite.a | cpp-ready
+	@$(CPP_CXX) $(CPP_FLAGS) $< $(CPP_OUT)/libsuite.a -o $@
+
+$(CPP_OUT)/suite_test: tests/suite/suite_test.cpp tests/suite/definitions.hpp tests/suite/room.hpp \
+    include/mayexoton.h $(CPP_OUT)/libsuite.a | cpp-ready
+	@$(CPP_CXX) $(CPP_FLAGS) $(CPP_SANITIZE) $< $(CPP_OUT)/libsuite.a -o $@
+
+$(CPP_OUT)/bench: bench/bench.cpp bench/grids.hpp bench/instructions.hpp bench/reference.hpp include/mayexoton.h \
+    $(CPP_OUT)/libsuite.a | cpp-ready
+	@$(CPP_CXX) $(CPP_FLAGS) $< $(CPP_OUT)/libsuite.a -o $@
+
+# For this machine, as the emulator is.
+$(CPP_OUT)/libcounter.so: bench/counter.cpp bench/instructions.hpp | $(CPP_OUT)
+	@$(CXX) $(CPP_FLAGS) -fPIC -shared $< -o $@
+
+# A copy that changes only when the archive does: rt writes the archive each time.
+$(CPP_OUT)/libsuite.a: $(CPP_LIBRARY) | $(CPP_OUT)
+	@cmp -s $< $@ || cp $< $@
+
+target/staticlib/libsuite.a: cpp-always | $(CPP_OUT)
+	@rt staticlib suite > $(CPP_OUT)/staticlib.log 2>&1 || { cat $(CPP_OUT)/staticlib.log >&2; exit 1; }
+
+$(CPP_OUT):
+	@mkdir -p $@
+
+cpp-ready:
+	@for need in $(CPP_NEEDED); do \
+	    command -v "$${need%%:*}" > /dev/null && continue; \
+	    echo "$${need%%:*} is missing; make cpp-tools installs it" >&2; exit 1; \
+	done
+
+cpp-tools: | $(CPP_OUT)
+	@packages=; \
+	for need in $(CPP_NEEDED); do \
+	    command -v "$${need%%:*}" > /dev/null || packages="$$packages $${need##*:}"; \
+	done; \
+	test -n "$$packages" || exit 0; \
+	root=; test "$$(id -u)" = 0 || root='sudo -n'; \
+	install="$$root env DEBIAN_FRONTEND=noninteractive apt-get install -y --no-install-recommends $$packages"; \
+	if { $$install || { $$root apt-get update && $$install; }; } > $(CPP_OUT)/tools.log 2>&1; \
+	then echo "installed:$$packages"; \
+	else echo "cannot install:$$packages; $(CPP_OUT)/tools.log says why. Install them by hand" >&2; exit 1; \
+	fi
