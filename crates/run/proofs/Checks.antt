@@ -1,6 +1,7 @@
 -- The tests of Column and End, one after the other: the answer at each return, and what is known when all pass.
 --     column-*, end-*          the answer at each return, by the tests so far
 --     column-good, end-good    what the answer Good says
+--     product-fits, -wide      a product of columns and rows stays in 64 bits
 -- Assumes nothing.
 use mathlib.Core.Path.{_≡_, refl, sym, _∙_, ap, ap₂}
 use mathlib.Core.Bool.{Bool, true, false, not}
@@ -44,6 +45,13 @@ pub product-fits : {r k rows columns : ℕ} → r ≡ rows → k ≡ columns →
     → k * r < 18446744073709551616
 product-fits {r} {k} {rows} {columns} er ek l m =
     let h : k * r ≤ 4294967296 * r = mul-le-mul-right r (omega arith) in
+    omega arith
+
+-- a product of two numbers of 32 bits has 64
+pub product-wide : {r k rows columns : ℕ} → k ≡ columns → r ≡ rows → columns < 4294967296 → rows < 4294967296
+    → k * r < 18446744073709551616
+product-wide {r} {k} {rows} {columns} ek er l m =
+    let h : k * r ≤ 4294967295 * r = mul-le-mul-right r (omega arith) in
     omega arith
 
 -- ---- what both calls test: k columns of r rows, as the code has them

@@ -1,4 +1,7 @@
 pub mod Checks
 pub mod Columns
+pub mod Rows
+pub mod Values
+pub mod Calls
 pub mod Sessions
 pub mod Claims

@@ -1,9 +1,11 @@
-// A growing run: Start, Column and End, over the flat core.
+// A growing run: Start, Column and End, over the flat core, and the lent row of records filled from it.
 ghost use mathlib.Core.Path.{_≡_};
 ghost use Prim.Native.Nat.{_+_, _*_, _≤_};
 ghost use lib.ListN.{length};
 ghost use lib.Seq.{paste};
 ghost use Rattle.run.specs.Running.{startAnswer, columnCheck, endCheck, GoodColumn, GoodEnd, FlatColumn, FlatEnd};
+ghost use Rattle.run.specs.Running.{Columns, Ends, takenOf, countIn, cellsIn};
+use record::Peak;
 use record::Refusal;
 
 // A run record: rows, columns taken, threshold and whether the run has ended.
@@ -232,4 +234,67 @@ pub fn end_flat(run: Run, grid: &[i32], work: &mut [u8], room: usize) -> Step
         },
         Checked::Good => end_good(run, grid, work, room),
     }
+}
+
+// How many records an answer has: none where it is a refusal.
+fn count_of(handed: Handed) -> usize
+    ensures { λ r. ⌜ r ≡ countIn handed ⌝ }
+{
+    match handed {
+        Handed::Count(n) => n as usize,
+        Handed::Refused(_) => 0,
+    }
+}
+
+// The cells of the work area that an answer is read from: none where it is a refusal.
+fn cells_of(handed: Handed, cells: usize) -> usize
+    ensures { λ r. ⌜ r ≡ cellsIn handed cells ⌝ }
+{
+    match handed {
+        Handed::Count(_) => cells,
+        Handed::Refused(_) => 0,
+    }
+}
+
+// The cells that a run record says are taken. Two numbers of 32 bits have a product of 64.
+fn taken_cells(run: Run) -> usize
+    ensures { λ r. ⌜ r ≡ takenOf run ⌝ }
+{
+    words::index(run.columns) * words::index(run.rows)
+}
+
+// Offers one column to a run.
+pub fn column(
+    run: Run,
+    column: &[i32],
+    grid: &mut [i32],
+    work: &mut [u8],
+    table: &mut [Peak],
+) -> Step
+    ensures { λ r. ⌜ Columns run (now (column .entry)) (now (grid .entry)) (now (grid .exit))
+        (length (now (work .entry))) (now (table .entry)) (now (table .exit)) (r .run) (r .handed) ⌝ }
+{
+    let room = table.len();
+    let step = column_flat(run, column, grid, work, room);
+    let after = step.run;
+    let handed = step.handed;
+    let cells = cells_of(handed, taken_cells(after));
+    let count = count_of(handed);
+    table::fill(table, work, cells, count);
+    step
+}
+
+// Ends a run.
+pub fn end(run: Run, grid: &[i32], work: &mut [u8], table: &mut [Peak]) -> Step
+    ensures { λ r. ⌜ Ends run (now (grid .entry)) (length (now (work .entry))) (now (table .entry))
+        (now (table .exit)) (r .run) (r .handed) ⌝ }
+{
+    let room = table.len();
+    let step = end_flat(run, grid, work, room);
+    let after = step.run;
+    let handed = step.handed;
+    let cells = cells_of(handed, taken_cells(after));
+    let count = count_of(handed);
+    table::fill(table, work, cells, count);
+    step
 }

@@ -19,27 +19,27 @@ Inv-loop grid₀ at column i₀ grid i = (i ≤ length column) × (grid ≡ past
 abbrev μ-loop : tie.MeasureT-loop
 μ-loop grid₀ at column i₀ grid i = length column - i
 
--- src/lib.rt:134:5
+-- src/lib.rt:136:5
 loop-holds : tie.Need-loop-holds Inv-loop μ-loop
 loop-holds c = (omega arith, paste-zero (now (c .args .grid)) (c .args .at) (now (c .args .column)))
 
--- src/lib.rt:135:24
+-- src/lib.rt:137:24
 mul-grid : tie.Need-mul-grid Inv-loop μ-loop
 mul-grid c = omega arith
 
--- src/lib.rt:135:24
+-- src/lib.rt:137:24
 shared-slice-copy-out-grid : tie.Need-shared-slice-copy-out-grid Inv-loop μ-loop
 shared-slice-copy-out-grid c = omega arith
 
--- src/lib.rt:135:14
+-- src/lib.rt:137:14
 add-t9 : tie.Need-add-t9 Inv-loop μ-loop
 add-t9 c = omega arith
 
--- src/lib.rt:135:9
+-- src/lib.rt:137:9
 mul-t10 : tie.Need-mul-t10 Inv-loop μ-loop
 mul-t10 c = omega arith
 
--- src/lib.rt:135:9
+-- src/lib.rt:137:9
 slice-set-from-grid : tie.Need-slice-set-from-grid Inv-loop μ-loop
 slice-set-from-grid c =
     let s = c .before .before .before in
@@ -47,15 +47,15 @@ slice-set-from-grid c =
     let l = ap length (h .1) ∙ length-paste (now (s .args .grid)) (s .args .at) (now (s .args .column)) (c .before .before .loop .i) (omega arith) (h .0) in
     omega arith
 
--- src/lib.rt:136:9
+-- src/lib.rt:138:9
 add-i : tie.Need-add-i Inv-loop μ-loop
 add-i c = omega arith
 
--- src/lib.rt:134:5
+-- src/lib.rt:136:5
 loop-less : tie.Need-loop-less Inv-loop μ-loop
 loop-less c = omega arith
 
--- src/lib.rt:134:5
+-- src/lib.rt:136:5
 loop-again : tie.Need-loop-again Inv-loop μ-loop
 loop-again c =
     let s = c .before .before .before in
@@ -65,14 +65,14 @@ loop-again c =
           (c .before .loop-test .taken) (h .1) (toZ-ofZ w32 _ (record { sfits = c .grid .given })),
     )
 
--- src/lib.rt:129:1
+-- src/lib.rt:131:1
 same-length : tie.Need-same-length Inv-loop μ-loop
 same-length c =
     let s = c .before .before in
     let h = c .before .loop .inv in
     ap length (h .1) ∙ length-paste (now (s .args .grid)) (s .args .at) (now (s .args .column)) (c .before .loop .i) (omega arith) (h .0)
 
--- src/lib.rt:129:1
+-- src/lib.rt:131:1
 returns : tie.Need-returns Inv-loop μ-loop
 returns c =
     let s = c .before .before in
