@@ -4,7 +4,7 @@
 In CSV a grid has a line for each row and a field for each column; an empty field is a blank cell. A line without any
 field is a row of no columns, or, where other lines have one field, a row of one blank cell.
 
-The run file is that of docs/01-scope.md. The records of a file are checked for soundness, as reading it is defined
+The run file is that of docs/FORMATS.md. The records of a file are checked for soundness, as reading it is defined
 there; whether they are the right list is not.
 """
 

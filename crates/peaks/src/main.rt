@@ -35,11 +35,12 @@ fn say_refusal(number: u32) {
     say(b"\n");
 }
 
-// The prominence, as the difference of levels.
+// The prominence. A record of the list has its key height below its height.
 fn drop_of(height: i32, key: i32) -> u32 {
-    let high = record::level(height);
-    let low = record::level(key);
-    if low <= high { high - low } else { 0 }
+    if key <= height {
+        return record::prominence(height, key);
+    }
+    0
 }
 
 // Writes key height, pass cell and prominence, or that they are missing.
