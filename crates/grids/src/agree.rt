@@ -1,11 +1,11 @@
 // On made-up runs, that the batches of the column calls and of End are together the list of the whole grid.
 use crate::answers::Call;
 use crate::answers::answer;
+use crate::differs::show_grid;
 use crate::random;
 use crate::random::CELLS;
 use crate::records::append;
 use crate::records::same;
-use crate::show::show_grid;
 use second::Records;
 
 // How many runs agree with their lists, of those below `end`.

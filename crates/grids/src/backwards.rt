@@ -5,11 +5,12 @@
 use crate::agree::one_more_if;
 use crate::answers::Call;
 use crate::answers::answer;
+use crate::differs::show_grid;
 use crate::random;
 use crate::random::CELLS;
 use crate::records::field;
-use crate::show::show_grid;
 use crate::text::magnitude;
+use second::MAX;
 use second::Records;
 
 // How many grids agree with what they are backwards, of those below `end`.
@@ -35,7 +36,7 @@ fn lists_agree(rows: usize, heights: &[i32], threshold: u32) -> bool {
     let mut back = [0i64; 256];
     let count = answer(Call::List, rows, heights, threshold, &mut there);
     let other = list_backwards(rows, heights, threshold, &mut back);
-    if count == other && same_backwards(&there, &back, count, heights.len()) {
+    if count <= MAX && count == other && same_backwards(&there, &back, count, heights.len()) {
         return true;
     }
     show_grid(rows, heights, threshold);

@@ -2,8 +2,14 @@
 //
 // Then it runs made-up grids, on which the definitions fix how two answers are related, and counts those that agree.
 mod agree; // agree.rt: the batches of a run are the list
-mod answers; // answers.rt: the one place where a lister is asked
+mod answers; // answers.rt: the one place where answers come from, both listers asked
 mod backwards; // backwards.rt: the list of a grid that is read backwards
+mod both; // both.rt: one call of both listers, accepted or refused
+mod differs; // differs.rt: the line for a grid on which two answers differ
+mod first; // first.rt: the first lister, its records as the second one's
+mod forged; // forged.rt: run records that are refused
+mod growing; // growing.rt: both listers on made-up runs
+mod lists; // lists.rt: both listers on made-up grids
 mod paper; // paper.rt: the grids of the paper
 mod random; // random.rt: made-up grids
 mod records; // records.rt: rows of records
@@ -14,10 +20,17 @@ mod text; // text.rt: words and numbers on standard output
 // How many made-up grids each relation is tried on.
 const GRIDS: u64 = 300;
 
+// The made-up grids behind these, up to the first of the runs, and the runs up to the last: both listers are compared
+// on them, with the refusals.
+const FIRST_RUN: u64 = 700;
+
+const LAST_RUN: u64 = 850;
+
 fn main() {
     paper::run();
     shortcuts::run();
     made_up();
+    compared();
 }
 
 // Prints how many made-up grids agree.
@@ -33,4 +46,12 @@ fn say_agreed(agreed: u64) {
     text::say_count(agreed);
     text::say(b" of ");
     text::say_count(GRIDS);
+}
+
+// Prints on how many made-up grids and runs both listers agree.
+fn compared() {
+    text::say_count(lists::count(GRIDS, FIRST_RUN));
+    text::say(b" grids: both listers agree, refusals too\n");
+    text::say_count(growing::count(FIRST_RUN, LAST_RUN));
+    text::say(b" runs: both listers agree, refusals too\n");
 }

@@ -1,4 +1,5 @@
 // The grids of section "Grids to check by", in its order.
+use crate::answers::start_refusal;
 use crate::show::show_list;
 use crate::show::show_program;
 use crate::show::show_refusal;
@@ -69,8 +70,8 @@ fn limits() {
 }
 
 fn row_limits() {
-    show_refusal(b"start, rows 1024", second::start_refusal(1024));
-    show_refusal(b"start, rows 1025", second::start_refusal(1025));
+    show_refusal(b"start, rows 1024", start_refusal(1024));
+    show_refusal(b"start, rows 1025", start_refusal(1025));
 }
 
 fn list_limits() {

@@ -14,7 +14,7 @@ pub fn field(records: &Records, i: usize, place: usize) -> i64 {
 }
 
 // Puts a number at a place of record i.
-fn put(records: &mut Records, i: usize, place: usize, number: i64) {
+pub fn put(records: &mut Records, i: usize, place: usize, number: i64) {
     if i >= MAX {
         return;
     }
@@ -45,9 +45,28 @@ fn append_one(batch: &Records, i: usize, parts: &mut Records, at: usize) -> usiz
     at + 1
 }
 
+// Whether two rows of records are the same, in the same order. More records than cells are no list.
+pub fn alike(a: &Records, count: usize, b: &Records, total: usize) -> bool {
+    if count > MAX {
+        return false;
+    }
+    if count != total {
+        return false;
+    }
+    for i in 0..count {
+        if !equal(a, i, b, i) {
+            return false;
+        }
+    }
+    true
+}
+
 // Whether two rows of records are the same but for their order. No two records of a list are equal, so that as many
 // records of which each is found are the same.
 pub fn same(whole: &Records, count: usize, parts: &Records, total: usize) -> bool {
+    if count > MAX {
+        return false;
+    }
     if count != total {
         return false;
     }

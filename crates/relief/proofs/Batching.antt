@@ -1,17 +1,18 @@
--- The batches of a growing run, surveyed: a computing twin of `Closed`, `Batch` and `Rest`, and that it tells what they say.
+-- The batches of a growing run, surveyed: a computing twin of `Closed`, `Batch` and `Rest`,
+-- and that it tells what they say.
 --     Staged touch touch? s     the cells of the stage s are a terrain
 --     closed? s x               the peak x is closed
 --     surveyBatch, surveyRest   what a column call and End hand out
 -- Assumes nothing.
-use mathlib.Core.Path.{_≡_, refl, sym, _∙_, ap, subst}
-use mathlib.Core.Bool.{Bool, true, false, not}
+use mathlib.Core.Path.{_≡_, refl, _∙_, ap, subst}
+use mathlib.Core.Bool.{Bool, not}
 use mathlib.Core.List.{List}
 use mathlib.Core.Logic.{_⊎_, inl, inr}
-use Prim.Native.Nat.{ℕ, _≤_, _<_}
+use Prim.Native.Nat.{ℕ}
 use native.Mathlib.Omega.{arith}
 use lib.Dec.{ltb}
-use Rattle.relief.specs.Peaks.{Entry, floorOf, Listed}
-use Rattle.relief.specs.Runs.{Stage, Closed, Open, Closing, Batch, Remaining, Rest}
+use Rattle.relief.specs.Peaks.{Entry, floorOf}
+use Rattle.relief.specs.Runs.{Stage, Closed, Closing, Batch, Remaining, Rest}
 use Rattle.relief.proofs.Deciding.{
   split,
   Decides,

@@ -5,14 +5,13 @@
 use mathlib.Core.Path.{_≡_, refl}
 use mathlib.Core.Bool.{Bool, true, false}
 use mathlib.Core.List.{List}
-use mathlib.Core.Logic.{_⊎_, inl, inr}
-use Prim.Native.Nat.{ℕ, suc, _≤_, _<_}
+use mathlib.Core.Logic.{_⊎_}
+use Prim.Native.Nat.{ℕ, suc, _<_}
 use native.Mathlib.Nat.{mod-lt}
 use native.Mathlib.Omega.{arith}
 use Rattle.relief.specs.Heights.{heightOf}
-use Rattle.relief.specs.Paths.{Way, alone, least}
 use Rattle.relief.specs.Peaks.{Key, missing, key, Entry, Wanted, KeyOf, Listed}
-use Rattle.relief.specs.Lists.{Member, InReadingOrder, ListOf}
+use Rattle.relief.specs.Lists.{Member, ListOf}
 use Rattle.relief.specs.Runs.{Closed}
 use Rattle.relief.specs.Claims.{
   Ground,
@@ -21,7 +20,6 @@ use Rattle.relief.specs.Claims.{
   PlaneEight,
   WayTold,
   Climbs,
-  KeyOrNone,
   KeyBelow,
   KeyAccount,
   IslandBounded,
@@ -34,13 +32,13 @@ use Rattle.relief.specs.Claims.{
   ZeroListsOne,
   Claims,
 }
-use Rattle.relief.proofs.Deciding.{split, Decides, true-not-false, decide, le-or-lt, lt-decides}
+use Rattle.relief.proofs.Deciding.{split, Decides, true-not-false, le-or-lt, lt-decides}
 use Rattle.relief.proofs.Ways.{way-end, way-step, path-of-way}
 use Rattle.relief.proofs.Reaching.{way-decides}
 use Rattle.relief.proofs.Peaking.{Terrain, land-below, climb}
 use Rattle.relief.proofs.Keys as Keys
 use Rattle.relief.proofs.Listing as Listing
-use Rattle.relief.proofs.Surveying.{peak-key, survey, survey-list}
+use Rattle.relief.proofs.Surveying.{peak-key, survey-list}
 use Rattle.relief.proofs.Batching.{Staged}
 use Rattle.relief.proofs.Closing as Closing
 use Rattle.relief.proofs.Growing as Growing
@@ -75,7 +73,8 @@ plane-eight rows c = (Plane.around rows c, Plane.plane-eight rows c)
 way-told : WayTold
 way-told g f a b =
     let t = ground-terrain g in
-    decided (way-decides (t .decides) (λ c. lt-decides f (g .level c)) (g .cells) (λ c l. land-below t c (omega arith)) a b)
+    decided (way-decides (t .decides) (λ c. lt-decides f (g .level c)) (g .cells)
+    (λ c l. land-below t c (omega arith)) a b)
 
 climbs : Climbs
 climbs g c l = let (p, q, w) = climb (ground-terrain g) c l in (p, q, path-of-way (g .level) l w)
@@ -171,14 +170,19 @@ module _ (r : Handing) where
   hold : (l : List Entry) → ListOf (r .touch) (r .stage (r .columns) .level) (r .threshold) l → (e : Entry)
       → (Member e l → ((j : ℕ) × (j < r .columns) × Member e (r .batch j)) ⊎ Member e (r .rest))
       × (((j : ℕ) × (j < r .columns) × Member e (r .batch j)) ⊎ Member e (r .rest) → Member e l)
-  hold l h = Growing.batches-hold (r .symmetric) told (r .grows) (r .threshold) (r .batch) (r .columns) (r .rest) l (r .batches) (r .ended) h
+  hold l h =
+      Growing.batches-hold (r .symmetric) told (r .grows) (r .threshold) (r .batch) (r .columns) (r .rest) l
+      (r .batches) (r .ended) h
 
   once : (i j : ℕ) (e e′ : Entry) → i < j → j < r .columns → Member e (r .batch i) → Member e′ (r .batch j)
       → e .cell ≡ e′ .cell → ⊥
-  once i j e e′ = Growing.batches-once (r .symmetric) told (r .grows) (r .threshold) (r .batch) (r .columns) i j e e′ (r .batches)
+  once i j e e′ =
+      Growing.batches-once (r .symmetric) told (r .grows) (r .threshold) (r .batch) (r .columns) i j e e′ (r .batches)
 
   last : (i : ℕ) (e e′ : Entry) → i < r .columns → Member e (r .batch i) → Member e′ (r .rest) → e .cell ≡ e′ .cell → ⊥
-  last i e e′ = Growing.rest-once (r .symmetric) told (r .grows) (r .threshold) (r .batch) (r .columns) i e e′ (r .rest) (r .batches) (r .ended)
+  last i e e′ =
+      Growing.rest-once (r .symmetric) told (r .grows) (r .threshold) (r .batch) (r .columns) i e e′ (r .rest)
+      (r .batches) (r .ended)
 
 pub claims : Claims
 claims = record {

@@ -3,7 +3,7 @@
 --     Decides A b              the test b tells whether A holds
 --     both, either, not        decide a pair, a sum, a negation
 --     anyBelow n f, allBelow   decide whether some or each number below n passes the test f
---     firstBelow n f           the first number below n that passes, or n
+--     firstFrom k i f          the first of the k numbers from i on that passes, or i + k
 --     topBelow n f v           the greatest v i of those i below n that pass, or 0
 -- Assumes nothing.
 use mathlib.Core.Path.{_≡_, refl, sym, ap, _∙_, subst}
@@ -173,7 +173,9 @@ module _ {P : ℕ → Type 0} {f : ℕ → Bool} (d : (i : ℕ) → Decides (P i
       go false p h = record {
         from = let l = h .from in omega arith;
         to = let l = h .to in omega arith;
-        none = λ j l m q. split (below-suc i j (omega arith)) (λ e. p .fails refl (subst P (sym e) q)) (λ o. h .none j o m q);
+        none =
+            λ j l m q. split (below-suc i j (omega arith)) (λ e. p .fails refl (subst P (sym e) q))
+            (λ o. h .none j o m q);
         found = λ m. h .found (omega arith);
       }
 
@@ -183,7 +185,8 @@ module _ {P : ℕ → Type 0} {f : ℕ → Bool} (d : (i : ℕ) → Decides (P i
       go : First 0 (firstFrom n 0 f) n → (r : ℕ) × (r ≤ i) × P r × ((j : ℕ) → P j → r ≤ j)
       go w =
           let r = firstFrom n 0 f in
-          let before : (j : ℕ) → P j → r ≤ j = λ j q. split (le-or-lt r j) (λ l. l) (λ l. absurd (w .none j zero-le l q)) in
+          let before : (j : ℕ) → P j → r ≤ j =
+          λ j q. split (le-or-lt r j) (λ l. l) (λ l. absurd (w .none j zero-le l q)) in
           (r, before i p, w .found (omega (arith, before i p)), before)
 
 -- ---- the greatest value of those that pass
@@ -203,12 +206,16 @@ top-below (suc n) f v = go (f n) refl (top-below n f v)
     go : (b : Bool) → f n ≡ b → Top n f v (topBelow n f v)
         → Top (suc n) f v (elim b [ true ↦ max (v n) (topBelow n f v) | false ↦ topBelow n f v ])
     go true e h = record {
-      upper = λ i l p. split (below-suc i n l) (λ m. let q : v i ≡ v n = ap v m in omega arith) (λ m. omega (arith, h .upper i m p));
+      upper =
+          λ i l p. split (below-suc i n l) (λ m. let q : v i ≡ v n = ap v m in omega arith)
+          (λ m. omega (arith, h .upper i m p));
       attained = λ l. split (le-or-lt (topBelow n f v) (v n))
           (λ m. (n, omega arith, e, omega arith))
           (λ m. let q = h .attained (omega arith) in (q .0, omega arith, q .2, omega arith));
     }
     go false e h = record {
-      upper = λ i l p. split (below-suc i n l) (λ m. true-not-false (subst (λ (j : ℕ). f j ≡ true) m p) e) (λ m. h .upper i m p);
+      upper =
+          λ i l p. split (below-suc i n l) (λ m. true-not-false (subst (λ (j : ℕ). f j ≡ true) m p) e)
+          (λ m. h .upper i m p);
       attained = λ l. let q = h .attained l in (q .0, omega arith, q .2, q .3);
     }

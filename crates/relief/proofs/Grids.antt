@@ -4,14 +4,14 @@
 --     follows            and then the example is as the definitions say
 --     marked-follow      the whole table, by one computation
 -- Assumes nothing.
-use mathlib.Core.Path.{_≡_, refl, sym, _∙_, ap, subst}
-use mathlib.Core.Bool.{Bool, true, false, not}
+use mathlib.Core.Path.{_≡_, refl, ap, subst}
+use mathlib.Core.Bool.{Bool, true, false}
 use mathlib.Core.List.{List, [], _∷_}
-use Prim.Native.Nat.{ℕ, zero, suc, _+_, _-_, _*_, _≤_}
+use Prim.Native.Nat.{ℕ, suc, _*_, _≤_}
 use native.Mathlib.Omega.{arith}
 use lib.Dec.{T, eqb}
 use lib.IntN.{ℤ}
-use lib.ListN.{length, take, getD, length-take, List·getD-eq-default}
+use lib.ListN.{length, take, length-take, List·getD-eq-default}
 use borrow.Author.Tests.{eqb-true}
 use Rattle.relief.specs.Heights.{BLANK, levelOf, levels}
 use Rattle.relief.specs.Peaks.{Key, missing, key, Entry}
@@ -19,8 +19,8 @@ use Rattle.relief.specs.Lists.{ListOf}
 use Rattle.relief.specs.Runs.{Batch, Rest}
 use Rattle.relief.specs.Plane.{Plane, stageOf}
 use Rattle.relief.specs.Grids.{Example, grid, run, HandedOut, Follows, Each, marked}
-use Rattle.relief.proofs.Deciding.{split, true-not-false, both}
-use Rattle.relief.proofs.Peaking.{Terrain, flat?}
+use Rattle.relief.proofs.Deciding.{true-not-false, both}
+use Rattle.relief.proofs.Peaking.{Terrain}
 use Rattle.relief.proofs.Surveying.{peak?, better?, joined?, keyLevel, entryAt, listed?, survey, survey-list}
 use Rattle.relief.proofs.Batching.{Staged, closed?, surveyRest, surveyBatch, survey-rest, survey-batch}
 use Rattle.relief.proofs.Plane.{plane?, plane-decides, plane-symmetric}
@@ -36,7 +36,8 @@ plane-terrain rows heights = record {
   ends = levels-end heights;
 }
 
-pub plane-staged : (rows columns : ℕ) (heights : List ℤ) → Staged (Plane rows) (plane? rows) (stageOf rows columns heights)
+pub plane-staged : (rows columns : ℕ) (heights : List ℤ)
+    → Staged (Plane rows) (plane? rows) (stageOf rows columns heights)
 plane-staged rows columns heights = record {
   symmetric = plane-symmetric rows;
   decides = plane-decides rows;
@@ -110,7 +111,8 @@ follows-from : (rows T : ℕ) (heights : List ℤ) (j : ℕ) (batches : List (Li
 follows-from rows T heights j [] rest e =
     let (h, i) = both-holds (eqb (j * rows) (length heights)) _ e in (
       eqb-true (j * rows) (length heights) h,
-      subst (Rest (Plane rows) (stageOf rows j heights) T) (same-equal _ rest i) (survey-rest (plane-staged rows j heights) T),
+      subst (Rest (Plane rows) (stageOf rows j heights) T) (same-equal _ rest i)
+          (survey-rest (plane-staged rows j heights) T),
     )
 follows-from rows T heights j (batch ∷ batches) rest e =
     let (h, i) = both-holds _ (agreesFrom rows T heights (suc j) batches rest) e in (

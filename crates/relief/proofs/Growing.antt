@@ -1,21 +1,22 @@
--- From the first column to End: the batches of a growing run and what End hands out hold just the list of the whole run.
+-- From the first column to End: the batches of a growing run and what End hands out
+-- hold just the list of the whole run.
 --     closed-later       a peak closed at one stage is closed at every later one
 --     batch-of-closed    a listed peak that is closed was handed out by some call
 --     batches-hold       an entry stands in the list if and only if it stands in a batch or in the rest
 --     batches-once       no peak is handed out by two calls, nor by a call and by End
 -- A peak that is closed now either was closed one call before, and then it was the same entry, or this call hands it
 -- out. So going back from the last stage, where no peak is left at zero columns, finds the call. Assumes nothing.
-use mathlib.Core.Path.{_≡_, refl, sym, _∙_, subst}
+use mathlib.Core.Path.{_≡_, refl, subst}
 use mathlib.Core.Bool.{Bool}
 use mathlib.Core.List.{List}
 use mathlib.Core.Logic.{_⊎_, inl, inr}
-use Prim.Native.Nat.{ℕ, zero, suc, _≤_, _<_, zero-le}
+use Prim.Native.Nat.{ℕ, zero, suc, _≤_, _<_}
 use native.Mathlib.Omega.{arith}
 use Rattle.relief.specs.Peaks.{Entry, Listed}
-use Rattle.relief.specs.Lists.{Member, InReadingOrder, ListOf}
-use Rattle.relief.specs.Runs.{Stage, Further, Closed, Open, Closing, Batch, Remaining, Rest, Growing}
+use Rattle.relief.specs.Lists.{Member, ListOf}
+use Rattle.relief.specs.Runs.{Stage, Closed, Batch, Rest, Growing}
 use Rattle.relief.proofs.Deciding.{split, Decides, below-suc}
-use Rattle.relief.proofs.Peaking.{Terrain, land-below}
+use Rattle.relief.proofs.Peaking.{land-below}
 use Rattle.relief.proofs.Listing.{entry-unique}
 use Rattle.relief.proofs.Batching.{Staged, closed-told}
 use Rattle.relief.proofs.Closing.{closed-stays}
@@ -48,7 +49,8 @@ module _ {touch : ℕ → ℕ → Type 0} {touch? : ℕ → ℕ → Bool} {stage
     abbrev InBatch : Entry → ℕ → Type 0
     InBatch e m = (j : ℕ) × (j < m) × Member e (batch j)
 
-    batch-of-closed : (m : ℕ) (e : Entry) → Calls m → Closed touch (stage m) e → Listed touch (stage m .level) T e → InBatch e m
+    batch-of-closed : (m : ℕ) (e : Entry) → Calls m → Closed touch (stage m) e → Listed touch (stage m .level) T e
+        → InBatch e m
     batch-of-closed zero e calls h l = absurd
         (let i = land-below (staged zero) (e .cell) (h .right .peak .land) in let q = run .start in omega arith)
     batch-of-closed (suc m) e calls h l =
@@ -75,7 +77,8 @@ module _ {touch : ℕ → ℕ → Type 0} {touch? : ℕ → ℕ → Bool} {stage
         let o = r .sound e′ b′ .still in
         o .unclosed (subst (Closed touch (stage m)) (entry-unique e e′ (c .right) (o .right) q) c)
 
-    pub batches-hold : (m : ℕ) (rest l : List Entry) → Calls m → Rest touch (stage m) T rest → ListOf touch (stage m .level) T l
+    pub batches-hold : (m : ℕ) (rest l : List Entry) → Calls m → Rest touch (stage m) T rest
+        → ListOf touch (stage m .level) T l
         → (e : Entry) → (Member e l → InBatch e m ⊎ Member e rest) × (InBatch e m ⊎ Member e rest → Member e l)
     batches-hold m rest l calls r h e = (out, back)
       where

@@ -10,9 +10,8 @@ use mathlib.Core.Bool.{Bool, true, false}
 use mathlib.Core.List.{List, [], _∷_}
 use mathlib.Core.Logic.{_⊎_, inl, inr}
 use Prim.Native.Nat.{ℕ, zero, suc, _+_, _≤_, _<_, zero-le}
-use native.Mathlib.Nat.{le-antisymm}
 use native.Mathlib.Omega.{arith}
-use Rattle.relief.specs.Peaks.{Key, missing, key, Entry, floorOf, KeyOf, PeakEntry, NoKey, KeyHeight, PassCell}
+use Rattle.relief.specs.Peaks.{Key, missing, key, Entry, floorOf, KeyOf, PeakEntry, PassCell}
 use Rattle.relief.specs.Lists.{Member, Rising, InReadingOrder}
 use Rattle.relief.proofs.Deciding.{split, Decides, below-suc}
 use Rattle.relief.proofs.Peaking.{Terrain}
@@ -47,7 +46,8 @@ module _ {touch : ℕ → ℕ → Type 0} {level : ℕ → ℕ} where
       (subst (λ (c : ℕ). KeyOf touch level c (e′ .key)) (sym s) (h′ .keyed)) in
       λ i. record { cell = s i; level = l i; key = k i }
 
-module _ {touch : ℕ → ℕ → Type 0} {touch? : ℕ → ℕ → Bool} {level : ℕ → ℕ} {n : ℕ} (t : Terrain touch touch? level n) where
+module _ {touch : ℕ → ℕ → Type 0} {touch? : ℕ → ℕ → Bool} {level : ℕ → ℕ} {n : ℕ}
+    (t : Terrain touch touch? level n) where
   pub entry-floor : (e : Entry) → PeakEntry touch level e → floorOf (e .key) < level (e .cell)
   entry-floor e h = go (e .key) (h .keyed)
     where
@@ -66,7 +66,8 @@ module _ {touch : ℕ → ℕ → Type 0} {touch? : ℕ → ℕ → Bool} {level
 
 rising-member : (b : ℕ) (l : List Entry) (e : Entry) → Rising b l → Member e l → b ≤ e .cell
 rising-member b [] e r m = absurd m
-rising-member b (x ∷ l) e r (inl h) = let s : e .cell ≡ x .cell = ap (λ (y : Entry). y .cell) h in let k = r .0 in omega arith
+rising-member b (x ∷ l) e r (inl h) =
+    let s : e .cell ≡ x .cell = ap (λ (y : Entry). y .cell) h in let k = r .0 in omega arith
 rising-member b (x ∷ l) e r (inr m) = let h = rising-member (suc (x .cell)) l e (r .1) m in let k = r .0 in omega arith
 
 order-equal : (l m : List Entry) (a b : ℕ) → Rising a l → Rising b m
@@ -114,7 +115,8 @@ collect zero i f g = []
 collect (suc k) i f g = elim (f i) [ true ↦ g i ∷ collect k (suc i) f g | false ↦ collect k (suc i) f g ]
 
 module _ (P : Entry → Type 0) (f : ℕ → Bool) (g : ℕ → Entry)
-    (at : (i : ℕ) → g i .cell ≡ i) (told : (i : ℕ) → Decides (P (g i)) (f i)) (only : (e : Entry) → P e → e ≡ g (e .cell)) where
+    (at : (i : ℕ) → g i .cell ≡ i) (told : (i : ℕ) → Decides (P (g i)) (f i))
+    (only : (e : Entry) → P e → e ≡ g (e .cell)) where
   record Collected (k i : ℕ) (l : List Entry) : Type 0 where
     rises : Rising i l
     right : (e : Entry) → Member e l → P e
@@ -131,7 +133,11 @@ module _ (P : Entry → Type 0) (f : ℕ → Bool) (g : ℕ → Entry)
       go : (b : Bool) → Decides (P (g i)) b → Collected k (suc i) (collect k (suc i) f g)
           → Collected (suc k) i (elim b [ true ↦ g i ∷ collect k (suc i) f g | false ↦ collect k (suc i) f g ])
       go true d h = record {
-        rises = (let e = at i in omega arith, subst (λ (j : ℕ). Rising (suc j) (collect k (suc i) f g)) (sym (at i)) (h .rises));
+        rises = (
+          let e = at i in omega arith,
+          subst (λ (j : ℕ). Rising (suc j) (collect k (suc i) f g))
+              (sym (at i)) (h .rises),
+        );
         right = λ e m. split m (λ q. subst P (sym q) (d .holds refl)) (h .right e);
         all = λ e p l m. split (below-suc i (e .cell) (omega arith))
             (λ q. inl (only e p ∙ ap g (sym q)))
@@ -148,4 +154,8 @@ module _ (P : Entry → Type 0) (f : ℕ → Bool) (g : ℕ → Entry)
   pub collect-order : (n : ℕ) → ((e : Entry) → P e → e .cell < n) → InReadingOrder P (collect n 0 f g)
   collect-order n b =
       let h = collected n 0 in
-      record { rising = h .rises; sound = h .right; complete = λ e p. h .all e p zero-le (let l = b e p in omega arith) }
+      record {
+        rising = h .rises;
+        sound = h .right;
+        complete = λ e p. h .all e p zero-le (let l = b e p in omega arith);
+      }

@@ -4,17 +4,27 @@
 --     around rows c i           the i-th of the eight cells around c
 --     plane-fence               a cell before the last column touches no cell of a further column
 -- Assumes nothing.
-use mathlib.Core.Path.{_≡_, refl, sym, _∙_, ap, subst}
-use mathlib.Core.Bool.{Bool, true, false, not}
-use mathlib.Core.List.{List, [], _∷_}
+use mathlib.Core.Path.{_≡_, refl, sym, _∙_, ap}
+use mathlib.Core.Bool.{Bool, not}
+use mathlib.Core.List.{[], _∷_}
 use mathlib.Core.Logic.{_⊎_, inl, inr}
-use Prim.Native.Nat.{ℕ, zero, suc, _+_, _-_, _*_, _/_, _%_, _≤_, _<_, zero-le}
+use Prim.Native.Nat.{ℕ, zero, suc, _+_, _-_, _*_, _≤_, _<_, zero-le}
 use native.Mathlib.Nat.{div-add-mod', div-lt-iff-lt-mul, le-div-iff-mul-le, suc-mul, mul-zero, le-antisymm}
 use native.Mathlib.Omega.{arith}
 use lib.Dec.{eqb, leb}
 use lib.ListN.{getD}
 use Rattle.relief.specs.Plane.{rowOf, columnOf, Near, Plane}
-use Rattle.relief.proofs.Deciding.{split, Decides, both, both-decides, not-decides, le-decides, eq-decides, decides-iff, le-or-lt}
+use Rattle.relief.proofs.Deciding.{
+  split,
+  Decides,
+  both,
+  both-decides,
+  not-decides,
+  le-decides,
+  eq-decides,
+  decides-iff,
+  le-or-lt,
+}
 
 abbrev near? : ℕ → ℕ → Bool
 near? x y = both (leb x (suc y)) (leb y (suc x))
@@ -57,7 +67,8 @@ near-cases {x} {y} h =
 pub around : ℕ → ℕ → ℕ → ℕ
 around rows c i =
     getD
-    ((c - rows - 1) ∷ (c - rows) ∷ (c + 1 - rows) ∷ (c - 1) ∷ (c + 1) ∷ (c + rows - 1) ∷ (c + rows) ∷ (c + rows + 1) ∷ [])
+    ((c - rows - 1) ∷ (c - rows) ∷ (c + 1 - rows) ∷ (c - 1) ∷ (c + 1)
+    ∷ (c + rows - 1) ∷ (c + rows) ∷ (c + rows + 1) ∷ [])
     i 0
 
 pub plane-eight : (rows c d : ℕ) → Plane rows c d → (i : ℕ) × (i < 8) × (d ≡ around rows c i)
@@ -79,7 +90,8 @@ plane-eight rows c d h =
 
     right : columnOf rows d ≡ suc (columnOf rows c) → Found
     right e =
-        let m : columnOf rows d * rows ≡ columnOf rows c * rows + rows = ap (λ (x : ℕ). x * rows) e ∙ suc-mul (columnOf rows c) rows in
+        let m : columnOf rows d * rows ≡ columnOf rows c * rows + rows =
+        ap (λ (x : ℕ). x * rows) e ∙ suc-mul (columnOf rows c) rows in
         let p = place-number rows c in
         let q = place-number rows d in
         split (near-cases (h .row))
@@ -88,7 +100,8 @@ plane-eight rows c d h =
 
     left : columnOf rows c ≡ suc (columnOf rows d) → Found
     left e =
-        let m : columnOf rows c * rows ≡ columnOf rows d * rows + rows = ap (λ (x : ℕ). x * rows) e ∙ suc-mul (columnOf rows d) rows in
+        let m : columnOf rows c * rows ≡ columnOf rows d * rows + rows =
+        ap (λ (x : ℕ). x * rows) e ∙ suc-mul (columnOf rows d) rows in
         let p = place-number rows c in
         let q = place-number rows d in
         split (near-cases (h .row))
@@ -100,7 +113,8 @@ plane-fence rows zero a d l m h = absurd (omega arith)
 plane-fence rows (suc j) a d l m h =
     let e : suc j * rows ≡ j * rows + rows = suc-mul j rows in
     let r : 0 < rows = split (le-or-lt rows 0)
-    (λ z. let i : j * rows ≡ 0 = ap (λ (x : ℕ). j * x) (le-antisymm z zero-le) ∙ mul-zero j in absurd (omega arith)) (λ z. z) in
+    (λ z. let i : j * rows ≡ 0 = ap (λ (x : ℕ). j * x) (le-antisymm z zero-le) ∙ mul-zero j in
+    absurd (omega arith)) (λ z. z) in
     let x : columnOf rows a < j = div-lt-iff-lt-mul r .1 (omega arith) in
     let y : suc j ≤ columnOf rows d = le-div-iff-mul-le r .1 m in
     let z = h .column in

@@ -2,13 +2,13 @@
 --     plane-growing      the stages of a run of heights
 --     heightOf-level     the height at a level has this level
 --     plane-next         a cell of the last column touches one of the next
---     plane-open         an open peak below the greatest height: the column one higher changes its key height or unmakes it
+--     plane-open         an open peak below the greatest height: the column one higher changes its key height or
+--                        unmakes it
 -- Assumes nothing.
 use mathlib.Core.Path.{_≡_, refl, sym, _∙_, ap, subst}
 use mathlib.Core.Bool.{Bool, true, false}
-use mathlib.Core.List.{List, [], _∷_, _++_}
-use mathlib.Core.Logic.{_⊎_, inl, inr}
-use Prim.Native.Nat.{ℕ, zero, suc, _+_, _-_, _*_, _/_, _%_, _≤_, _<_, zero-le}
+use mathlib.Core.List.{List, _++_}
+use Prim.Native.Nat.{ℕ, suc, _+_, _-_, _*_, _≤_, _<_, zero-le}
 use native.Mathlib.Nat.{suc-mul, mul-zero, zero-mul, add-mod-right, add-div-right, le-antisymm}
 use native.Mathlib.Omega.{arith}
 use lib.Dec.{leb}
@@ -18,8 +18,8 @@ use borrow.Author.Tests.{leb-true, leb-false}
 use lib.ListN.{length, take, getD, replicate, getD-replicate, List·getD-append}
 use lib.Seq.{getD-take, getD-append-add}
 use Rattle.relief.specs.Heights.{BLANK, levelOf, heightOf, levels}
-use Rattle.relief.specs.Peaks.{Island, Entry, floorOf, PeakEntry}
-use Rattle.relief.specs.Runs.{Stage, Further, Open, KeyKept, Growing}
+use Rattle.relief.specs.Peaks.{Island, Entry, floorOf}
+use Rattle.relief.specs.Runs.{Further, Open, KeyKept, Growing}
 use Rattle.relief.specs.Plane.{rowOf, columnOf, Plane, stageOf}
 use Rattle.relief.proofs.Deciding.{split, decide, le-or-lt, le-decides, both-decides, any-decides}
 use Rattle.relief.proofs.Ways.{way-end}
@@ -27,7 +27,7 @@ use Rattle.relief.proofs.Peaking.{land-below}
 use Rattle.relief.proofs.Keys.{island-decides}
 use Rattle.relief.proofs.Closing.{open-changes}
 use Rattle.relief.proofs.Plane.{plane-fence}
-use Rattle.relief.proofs.Grids.{levels-end, plane-staged}
+use Rattle.relief.proofs.Grids.{plane-staged}
 
 -- cells within the first n are those of the whole grid
 pub levels-take : (heights : List ℤ) (n c : ℕ) → c < n → levels (take n heights) c ≡ levels heights c
@@ -71,7 +71,8 @@ module _ (rows columns : ℕ) (heights : List ℤ) (whole : length heights ≡ c
   -- an open peak's island has a cell in the last column
   open-newest : (e : Entry) → Open (Plane rows) (stageOf rows columns heights) e
       → (c : ℕ) × (c < columns * rows)
-      × (Island (Plane rows) (levels (take (columns * rows) heights)) (e .cell) (floorOf (e .key)) c × (columns * rows - rows ≤ c))
+      × (Island (Plane rows) (levels (take (columns * rows) heights)) (e .cell) (floorOf (e .key)) c
+      × (columns * rows - rows ≤ c))
   open-newest e o =
       let t = plane-staged rows columns heights in
       split
@@ -98,7 +99,8 @@ module _ (rows columns : ℕ) (heights : List ℤ) (whole : length heights ≡ c
               let l′ : c < length heights = omega arith in
               ap levelOf
               (getD-take (suc columns * rows) (heights ++ replicate rows z) c BLANK (omega arith)
-              ∙ List·getD-append heights (replicate rows z) BLANK c l′ ∙ sym (getD-take (columns * rows) heights c BLANK l));
+              ∙ List·getD-append heights (replicate rows z) BLANK c l′
+              ∙ sym (getD-take (columns * rows) heights c BLANK l));
           newer = omega arith;
         }
 
@@ -117,7 +119,8 @@ module _ (rows columns : ℕ) (heights : List ℤ) (whole : length heights ≡ c
     plane-open e o l kept =
         let (c, h, (w, n)) = open-newest e o in
         let r : 0 < rows = split (le-or-lt rows 0)
-        (λ q. let i : columns * rows ≡ 0 = ap (λ (x : ℕ). columns * x) (le-antisymm q zero-le) ∙ mul-zero columns in absurd (omega arith))
+        (λ q. let i : columns * rows ≡ 0 = ap (λ (x : ℕ). columns * x) (le-antisymm q zero-le) ∙ mul-zero columns in
+        absurd (omega arith))
         (λ q. q) in
         let m = suc-mul columns rows in
         let i : c + rows ≡ columns * rows + (c + rows - columns * rows) = omega arith in
@@ -125,5 +128,6 @@ module _ (rows columns : ℕ) (heights : List ℤ) (whole : length heights ≡ c
         subst (λ (d : ℕ). stageOf rows (suc columns) grown .level d ≡ levelOf z) (sym i)
         (grown-level (c + rows - columns * rows) (omega arith)) in
         let k = o .right .height in
-        open-changes (plane-staged rows columns heights) (plane-staged rows (suc columns) grown) (plane-fence rows columns)
+        open-changes (plane-staged rows columns heights) (plane-staged rows (suc columns) grown)
+        (plane-fence rows columns)
         grown-further e (o .right) c (c + rows) w (plane-next rows c r) (omega arith) kept

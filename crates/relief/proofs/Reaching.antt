@@ -3,16 +3,25 @@
 --     way-decides                with m beyond all cells of the set, the test decides whether there is a way
 -- A way with middle cells below m + 1 is one with middle cells below m, or goes through m and is two of them. What is
 -- reached so is closed under joining at a cell below m: that is all a way of any length needs. Assumes nothing.
-use mathlib.Core.Path.{_≡_, refl, sym, subst}
-use mathlib.Core.Bool.{Bool, true, false}
+use mathlib.Core.Path.{_≡_, refl, subst}
+use mathlib.Core.Bool.{Bool}
 use mathlib.Core.Logic.{_⊎_, inl, inr}
-use Prim.Native.Nat.{ℕ, zero, suc, _≤_, _<_}
-use native.Mathlib.Omega.{arith}
+use Prim.Native.Nat.{ℕ, zero, suc, _<_}
 use native.Mathlib.Nat.{not-suc-le-zero}
 use lib.Dec.{eqb}
 use Rattle.relief.specs.Paths.{Way, alone, onward}
-use Rattle.relief.proofs.Deciding.{split, Decides, both, either, both-decides, either-decides, decides-iff, eq-decides, below-suc}
-use Rattle.relief.proofs.Ways.{way-start, way-end, way-trans}
+use Rattle.relief.proofs.Deciding.{
+  split,
+  Decides,
+  both,
+  either,
+  both-decides,
+  either-decides,
+  decides-iff,
+  eq-decides,
+  below-suc,
+}
+use Rattle.relief.proofs.Ways.{way-start, way-trans}
 
 abbrev pub reach : (ℕ → ℕ → Bool) → (ℕ → Bool) → ℕ → ℕ → ℕ → Bool
 reach touch? in? zero a b = both (in? a) (both (in? b) (either (eqb a b) (touch? a b)))

@@ -1,23 +1,35 @@
 -- The survey: a computing twin of the definitions, cell by cell, and that it tells what they say.
 --     peak?         p is a peak's cell                  keyLevel     the key height of the peak p, or 0
---     entryAt       the entry of the peak p             wanted?      it is listed at T
+--     entryAt       the entry of the peak p             listed?      it is listed at T
 --     survey        the list of a grid
--- The key height of a peak is the greatest level of a cell at or above which a better cell is reached: on an island above
--- it there is none, since the least level of a way to it would be greater. Assumes nothing.
-use mathlib.Core.Path.{_≡_, refl, sym, _∙_, ap, subst}
+-- The key height of a peak is the greatest level of a cell at or above which a better cell is reached: on an island
+-- above it there is none, since the least level of a way to it would be greater. Assumes nothing.
+use mathlib.Core.Path.{_≡_, refl, subst}
 use mathlib.Core.Bool.{Bool, true, false, not}
 use mathlib.Core.List.{List}
 use mathlib.Core.Logic.{_⊎_, inl, inr}
 use Prim.Native.Nat.{ℕ, zero, suc, _-_, _≤_, _<_}
 use native.Mathlib.Omega.{arith}
 use lib.Dec.{eqb, leb, ltb}
-use Rattle.relief.specs.Paths.{Way, alone, least}
-use Rattle.relief.specs.Peaks.{Flat, Peak, Island, Key, missing, key, Entry, floorOf, Wanted, KeyOf, PeakEntry, Listed, KeyHeight, NoKey}
-use Rattle.relief.specs.Lists.{InReadingOrder, ListOf}
+use Rattle.relief.specs.Paths.{Way}
+use Rattle.relief.specs.Peaks.{
+  Flat,
+  Peak,
+  Key,
+  missing,
+  key,
+  Entry,
+  Wanted,
+  KeyOf,
+  PeakEntry,
+  Listed,
+  KeyHeight,
+  NoKey,
+}
+use Rattle.relief.specs.Lists.{ListOf}
 use Rattle.relief.proofs.Deciding.{
   split,
   Decides,
-  decide,
   passes,
   true-not-false,
   both,
@@ -32,7 +44,6 @@ use Rattle.relief.proofs.Deciding.{
   lt-decides,
   both-decides,
   either-decides,
-  not-decides,
   any-decides,
   all-decides,
   decides-iff,
@@ -50,16 +61,7 @@ use Rattle.relief.proofs.Peaking.{
   flat-decides,
   peak-not-better,
 }
-use Rattle.relief.proofs.Keys.{
-  Best,
-  key-of-best,
-  none-of-best,
-  key-land,
-  island?,
-  island-decides,
-  pass,
-  pass-exists,
-}
+use Rattle.relief.proofs.Keys.{Best, key-of-best, none-of-best, pass, pass-exists}
 use Rattle.relief.proofs.Listing.{entry-unique, collect, collect-order}
 
 -- ---- the tests
@@ -125,7 +127,8 @@ both-decides-then {a = false} p q = record {
   fails = λ e h. p .fails refl (h .0);
 }
 
-module _ {touch : ℕ → ℕ → Type 0} {touch? : ℕ → ℕ → Bool} {level : ℕ → ℕ} {n : ℕ} (t : Terrain touch touch? level n) where
+module _ {touch : ℕ → ℕ → Type 0} {touch? : ℕ → ℕ → Bool} {level : ℕ → ℕ} {n : ℕ}
+    (t : Terrain touch touch? level n) where
   pub peak-decides : (p : ℕ) → Decides (Peak touch level p) (peak? touch? level n p)
   unfolding peak?
   peak-decides p =
@@ -183,15 +186,23 @@ module _ {touch : ℕ → ℕ → Type 0} {touch? : ℕ → ℕ → Bool} {level
       let (v, l) = path-of-way level {f = suc k} (omega arith) w in
       let (d, m, e) = least-attained level v in
       let u : Way touch (λ a. level d ≤ level a) x c = least-below level v (level d) (omega arith) in
-      let h = passes (joint-decides x d) (m, (c, land-below t c (let i : k < level c = way-end w in omega arith), (b, u))) in
-      let i : level d ≤ k = top-below n (λ c. both (ltb 0 (level c)) (joined? touch? level n x (level c))) level .upper d (land-below t d m) h in
+      let h =
+      passes (joint-decides x d) (
+        m,
+        (c, land-below t c (let i : k < level c = way-end w in omega arith), (b, u)),
+      ) in
+      let i : level d ≤ k =
+      top-below n (λ c. both (ltb 0 (level c)) (joined? touch? level n x (level c))) level .upper d
+      (land-below t d m) h in
       omega arith
 
-  keyLevel-key : (x : ℕ) → Peak touch level x → 0 < keyLevel touch? level n x → KeyHeight touch level x (keyLevel touch? level n x)
+  keyLevel-key : (x : ℕ) → Peak touch level x → 0 < keyLevel touch? level n x
+      → KeyHeight touch level x (keyLevel touch? level n x)
   unfolding keyLevel
   keyLevel-key x p l =
       let k = keyLevel touch? level n x in
-      let (d, m, h, e) = top-below n (λ c. both (ltb 0 (level c)) (joined? touch? level n x (level c))) level .attained l in
+      let (d, m, h, e) =
+      top-below n (λ c. both (ltb 0 (level c)) (joined? touch? level n x (level c))) level .attained l in
       let (i, (g, j, (b, w))) = joint-decides x d .holds h in
       let v : Way touch (λ a. k ≤ level a) x g = way-mono (λ a q. omega arith) w in
       let below : k < level x =
@@ -231,7 +242,8 @@ module _ {touch : ℕ → ℕ → Type 0} {touch? : ℕ → ℕ → Bool} {level
   wanted-decides T height missing = record { holds = λ e. tt; fails = λ e. true-not-false refl e }
   wanted-decides T height (key k c) = le-decides T (height - k)
 
-  pub listed-decides : (T x : ℕ) → Decides (Listed touch level T (entryAt touch? level n x)) (listed? touch? level n T x)
+  pub listed-decides : (T x : ℕ)
+      → Decides (Listed touch level T (entryAt touch? level n x)) (listed? touch? level n T x)
   unfolding listed? entryAt
   listed-decides T x =
       decides-iff
@@ -242,5 +254,5 @@ module _ {touch : ℕ → ℕ → Type 0} {touch? : ℕ → ℕ → Bool} {level
   pub survey-list : (T : ℕ) → ListOf touch level T (survey touch? level n T)
   unfolding survey entryAt
   survey-list T =
-      collect-order (Listed touch level T) (listed? touch? level n T) (entryAt touch? level n) (λ i. refl) (listed-decides T)
-      (λ e h. entryAt-only e (h .right)) n (λ e h. land-below t (e .cell) (h .right .peak .land))
+      collect-order (Listed touch level T) (listed? touch? level n T) (entryAt touch? level n) (λ i. refl)
+      (listed-decides T) (λ e h. entryAt-only e (h .right)) n (λ e h. land-below t (e .cell) (h .right .peak .land))

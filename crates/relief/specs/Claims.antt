@@ -106,7 +106,8 @@ abbrev pub KeyNotNone : Type 1
 KeyNotNone = (g : Ground) (p k : ℕ) → KeyHeight (g .touch) (g .level) p k → NoKey (g .touch) (g .level) p → ⊥
 
 abbrev pub KeyUnique : Type 1
-KeyUnique = (g : Ground) (p k k′ : ℕ) → KeyHeight (g .touch) (g .level) p k → KeyHeight (g .touch) (g .level) p k′ → k ≡ k′
+KeyUnique =
+    (g : Ground) (p k k′ : ℕ) → KeyHeight (g .touch) (g .level) p k → KeyHeight (g .touch) (g .level) p k′ → k ≡ k′
 
 -- A key height is a height, and below the peak's; "1 to 4,294,967,294" at levels below 2^32.
 abbrev pub KeyBelow : Type 1
@@ -114,8 +115,8 @@ KeyBelow = (g : Ground) (p k : ℕ) → Peak (g .touch) (g .level) p → KeyHeig
     → (0 < k) × (k < g .level p)
     × (g .level p < 4294967296 → (1 ≤ prominence (g .level p) k) × (prominence (g .level p) k ≤ 4294967294))
 
--- A key height is right if there is a path to outranking ground at or above it and a set around the peak, above it, that
--- nothing higher than it touches from outside and in which nothing outranks.
+-- A key height is right if there is a path to outranking ground at or above it and a set around the peak, above it,
+-- that nothing higher than it touches from outside and in which nothing outranks.
 abbrev pub KeyAccount : Type 1
 KeyAccount = (g : Ground) (p k o : ℕ) → 0 < k → Outranks (g .touch) (g .level) p o
     → Way (g .touch) (λ c. k ≤ g .level c) p o
@@ -127,10 +128,12 @@ KeyAccount = (g : Ground) (p k o : ℕ) → 0 < k → Outranks (g .touch) (g .le
 -- The island's cells are above the key height, and nothing outside that touches it is.
 abbrev pub IslandBounded : Type 1
 IslandBounded = (g : Ground) (p k : ℕ) → ((c : ℕ) → Island (g .touch) (g .level) p k c → k < g .level c)
-    × ((a b : ℕ) → Island (g .touch) (g .level) p k a → (Island (g .touch) (g .level) p k b → ⊥) → g .touch a b → g .level b ≤ k)
+    × ((a b : ℕ) → Island (g .touch) (g .level) p k a → (Island (g .touch) (g .level) p k b → ⊥) → g .touch a b
+    → g .level b ≤ k)
 
 abbrev pub PassUnique : Type 1
-PassUnique = (g : Ground) (p k c c′ : ℕ) → PassCell (g .touch) (g .level) p k c → PassCell (g .touch) (g .level) p k c′ → c ≡ c′
+PassUnique =
+    (g : Ground) (p k c c′ : ℕ) → PassCell (g .touch) (g .level) p k c → PassCell (g .touch) (g .level) p k c′ → c ≡ c′
 
 abbrev pub PassExists : Type 1
 PassExists = (g : Ground) (p k : ℕ) → Peak (g .touch) (g .level) p → KeyHeight (g .touch) (g .level) p k
@@ -155,8 +158,8 @@ ZeroListsOne = (g : Ground) (l : List Entry) → ListOf (g .touch) (g .level) 0 
 
 -- ---- a growing run
 
--- "A peak is closed exactly when the ground above its key height (or all its ground, if it has none) no longer reaches the
--- newest column"
+-- "A peak is closed exactly when the ground above its key height (or all its ground, if it has none) no longer reaches
+-- the newest column"
 abbrev pub ClosedExactly : Type 1
 ClosedExactly = (touch : ℕ → ℕ → Type 0) (s : Stage) (e : Entry) → PeakEntry touch (s .level) e
     → Closed touch s e
@@ -171,8 +174,8 @@ ClosedIsland = (x : Extended) (e : Entry) → Closed (x .touch) (x .before) e �
     → Island (x .touch) (x .before .level) (e .cell) (floorOf (e .key)) c
     ↔ Island (x .touch) (x .after .level) (e .cell) (floorOf (e .key)) c
 
--- "for an open one below the greatest legal height some further column would change its key height or unmake it": one of
--- a single legal height.
+-- "for an open one below the greatest legal height some further column would change its key height or unmake it": one
+-- of a single legal height.
 abbrev pub OpenCanChange : Type 0
 OpenCanChange = (rows columns : ℕ) (heights : List ℤ) (e : Entry) → length heights ≡ columns * rows
     → Open (Plane rows) (stageOf rows columns heights) e → e .level < 4294967295

@@ -29,7 +29,8 @@ pub record Plane (rows a b : ℕ) : Type 0 where
   pub column : Near (columnOf rows a) (columnOf rows b)
   pub other : a ≡ b → ⊥
 
--- "a run growing by columns": of the heights in reading order, the first columns. The last column's cells are the newest.
+-- "a run growing by columns": of the heights in reading order, the first columns.
+-- The last column's cells are the newest.
 abbrev pub stageOf : ℕ → ℕ → List ℤ → Stage
 stageOf rows columns heights = record {
   level = levels (take (columns * rows) heights);

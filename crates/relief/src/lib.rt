@@ -1,1 +1,2 @@
-// Paths, flats, peaks, outranking ground, key heights, islands, passes and closing: definitions and mathematics, no code.
+// Paths, flats, peaks, outranking ground, key heights, islands, passes and closing:
+// definitions and mathematics, no code.

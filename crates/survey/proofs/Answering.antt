@@ -1,17 +1,16 @@
 -- From a sweep and a collection to the list, the batch and the rest of the definitions.
---     entry-told         every cell swept is a peak that is listed or not, closed or open, as the work area tells it
+--     listed-decides     every cell swept is a peak that is listed or not, as the work area tells it
+--     closed-decides     and closed or open
 --     answer-order       so the cells collected are just the entries that are handed out, in reading order
 -- Assumes nothing.
 use mathlib.Core.Path.{_≡_, refl, sym, _∙_, ap, subst}
 use mathlib.Core.Bool.{Bool, true, false, not}
 use mathlib.Core.List.{List}
-use mathlib.Core.Logic.{_⊎_, inl, inr}
-use Prim.Native.Nat.{ℕ, zero, suc, _+_, _-_, _*_, _≤_, _<_, zero-le}
+use Prim.Native.Nat.{ℕ, _+_, _-_, _*_, _≤_, _<_, zero-le}
 use native.Mathlib.Omega.{arith}
-use lib.Dec.{eqb, leb, ltb}
-use lib.ListN.{length}
+use lib.Dec.{eqb, leb}
 use borrow.Author.Tests.{eq-eqb, ne-eqb, lt-ltb, le-ltb, le-leb}
-use Rattle.relief.specs.Peaks.{Key, missing, key, Entry, floorOf, Peak, Island, PeakEntry, Listed, Wanted, KeyOf}
+use Rattle.relief.specs.Peaks.{Key, missing, key, Entry, floorOf, Peak, PeakEntry, Listed, Wanted, KeyOf}
 use Rattle.relief.specs.Lists.{InReadingOrder}
 use Rattle.relief.specs.Runs as Runs
 use Rattle.relief.specs.Runs.{Stage, Closed, Remaining}
@@ -21,10 +20,8 @@ use Rattle.relief.proofs.Deciding.{
   Decides,
   true-not-false,
   both,
-  either,
   le-or-lt,
   eq-decides,
-  lt-decides,
   le-decides,
   both-decides,
   not-decides,
@@ -34,15 +31,14 @@ use Rattle.relief.proofs.Deciding.{
 use Rattle.relief.proofs.Peaking.{Terrain, land-below}
 use Rattle.relief.proofs.Listing.{entry-unique}
 use Rattle.words.specs.Words.{wordAt}
-use Rattle.words.specs.Area.{Area, levelIn, orderIn, parentIn, passIn, cellIn, markIn}
+use Rattle.words.specs.Area.{Area, levelIn, orderIn, parentIn, cellIn, markIn}
 use Rattle.sweep.specs.Sweep.{Surveyed, Shores}
-use Rattle.sweep.specs.Taking.{cut, passOf, reachOf, shoreOf}
-use Rattle.sweep.proofs.Work.{cut-below, cut-behind}
+use Rattle.sweep.specs.Taking.{passOf, reachOf, shoreOf}
 use Rattle.table.specs.Table.{Counted}
 use Rattle.survey.specs.declared.Part.{Part}
 use Rattle.survey.specs.declared.Part.the-variants.{Whole, Closing, Open}
 use Rattle.survey.specs.Collecting.{wantsPart, listedIn, openIn, chosenIn, Collected}
-use Rattle.survey.specs.Answers.{pickKey, entryIn, upTo, entriesIn}
+use Rattle.survey.specs.Answers.{entryIn, entriesIn}
 use Rattle.survey.proofs.Places.{places-order}
 
 -- a statement that holds, or that fails, beside a test that says so
@@ -79,7 +75,8 @@ module _ (t : List ℕ) (n T c : ℕ) where
   unfolding listedIn
   test-root l e = simp (lt-ltb 0 (levelIn t c) l, eq-eqb (parentIn t n c) c e)
 
-  test-slope : (parentIn t n c ≡ c → ⊥) → levelIn t c ≤ levelIn t (passOf t n c) → 0 < levelIn t c → listedIn t n T c ≡ false
+  test-slope : (parentIn t n c ≡ c → ⊥) → levelIn t c ≤ levelIn t (passOf t n c) → 0 < levelIn t c
+      → listedIn t n T c ≡ false
   unfolding listedIn
   test-slope d m l =
       simp (lt-ltb 0 (levelIn t c) l, ne-eqb (parentIn t n c) c d, le-ltb (levelIn t (passOf t n c)) (levelIn t c) m)
@@ -113,7 +110,8 @@ module _ (t : List ℕ) (n c : ℕ) where
   entry-cell = refl
 
 -- a work area in which a sweep is done: L is the level of each cell below the limit
-pub record Settled (touch : ℕ → ℕ → Type 0) (touch? : ℕ → ℕ → Bool) (L : ℕ → ℕ) (newest limit : ℕ) (t : List ℕ) (n : ℕ) : Type 0 where
+pub record Settled (touch : ℕ → ℕ → Type 0) (touch? : ℕ → ℕ → Bool) (L : ℕ → ℕ) (newest limit : ℕ) (t : List ℕ)
+    (n : ℕ) : Type 0 where
   pub terrain : Terrain touch touch? L limit
   pub same : (c : ℕ) → c < limit → levelIn t c ≡ L c
   pub surveyed : Surveyed touch L newest limit (parentIn t n) (passOf t n) (reachOf t n) (shoreOf t n)
@@ -135,7 +133,8 @@ module _ {touch : ℕ → ℕ → Type 0} {touch? : ℕ → ℕ → Bool} {L : �
     right-root : 0 < levelIn t c → parentIn t n c ≡ c → PeakEntry touch L (entryIn t n c)
     right-root l e =
         let (p, k, o) = r .surveyed .top c below (land-L l) e in
-        subst (PeakEntry touch L) (sym (entry-root t n c e)) (record { peak = p; height = sym (r .same c below); keyed = k })
+        subst (PeakEntry touch L) (sym (entry-root t n c e))
+        (record { peak = p; height = sym (r .same c below); keyed = k })
 
     right-hung : 0 < levelIn t c → (parentIn t n c ≡ c → ⊥) → levelIn t (passOf t n c) < levelIn t c
         → PeakEntry touch L (entryIn t n c)
@@ -169,7 +168,8 @@ module _ {touch : ℕ → ℕ → Type 0} {touch? : ℕ → ℕ → Bool} {L : �
         go (blank e) = never (λ h. no-blank e (peak-of (entry-cell t n c) (h .right))) (test-blank t n T c e)
         go (root l e) =
             always (record { right = right-root l e; wanted = rw (entry-root t n c e) tt }) (test-root t n T c l e)
-        go (slope l d m) = never (λ h. no-slope l d m (peak-of (entry-cell t n c) (h .right))) (test-slope t n T c d m l)
+        go (slope l d m) =
+            never (λ h. no-slope l d m (peak-of (entry-cell t n c) (h .right))) (test-slope t n T c d m l)
         go (hung l d m) =
             decides-as (test-hung t n T c d m l)
             (decides-iff
@@ -180,8 +180,8 @@ module _ {touch : ℕ → ℕ → Type 0} {touch? : ℕ → ℕ → Bool} {L : �
     -- ---- closed
 
     -- the entry of a cell is that of a closed peak if its island reaches no newest ground
-    shores-closed : {e : Entry} {b : Bool} → PeakEntry touch L e → Decides (Shores touch L newest (e .cell) (floorOf (e .key))) b
-        → Decides (Closed touch stage e) (not b)
+    shores-closed : {e : Entry} {b : Bool} → PeakEntry touch L e
+        → Decides (Shores touch L newest (e .cell) (floorOf (e .key))) b → Decides (Closed touch stage e) (not b)
     shores-closed h d =
         decides-iff
         (λ none. record { right = h; away = λ x w l. none (x, w, l) })
@@ -209,7 +209,8 @@ module _ {touch : ℕ → ℕ → Type 0} {touch? : ℕ → ℕ → Bool} {L : �
             let (p, k, q, o) = r .surveyed .keyed c below (land-L l) d (omega arith) in
             decides-as
             (ap (λ (b : Bool). both b (not (openIn t n c)))
-            (test-hung t n 0 c d m l ∙ le-leb 0 (levelIn t c - levelIn t (passOf t n c)) zero-le) ∙ ap not (open-hung t n c d))
+            (test-hung t n 0 c d m l ∙ le-leb 0 (levelIn t c - levelIn t (passOf t n c)) zero-le)
+            ∙ ap not (open-hung t n c d))
             (rw (entry-hung t n c d)
             (shores-closed (rw (entry-hung t n c d) at (right-hung l d m))
             (subst (λ (x : ℕ). Decides (Shores touch L newest c x) (shoreOf t n c)) (sym f) o)))
@@ -271,13 +272,16 @@ module _ {touch : ℕ → ℕ → Type 0} {touch? : ℕ → ℕ → Bool} {L : �
       go false e = never (λ h. listed-decides c l T .fails e (h .listed)) refl
 
   module _ (s₀ : Stage)
-      (marks : (c : ℕ) → c < limit → Decides ((d : Entry) × (d .cell ≡ c) × Closed touch s₀ d) (markIn (orderIn t n c))) where
-    pub closing-told : (T c : ℕ) → c < limit → Decides (Runs.Closing touch s₀ stage T (entryIn t n c)) (chosenIn t n T Closing c)
+      (marks : (c : ℕ) → c < limit → Decides ((d : Entry) × (d .cell ≡ c) × Closed touch s₀ d)
+      (markIn (orderIn t n c))) where
+    pub closing-told : (T c : ℕ) → c < limit
+        → Decides (Runs.Closing touch s₀ stage T (entryIn t n c)) (chosenIn t n T Closing c)
     unfolding chosenIn
     closing-told T c l = go (listedIn t n T c) refl
       where
         go : (b : Bool) → listedIn t n T c ≡ b
-            → Decides (Runs.Closing touch s₀ stage T (entryIn t n c)) (both b (both (not (openIn t n c)) (not (markIn (orderIn t n c)))))
+            → Decides (Runs.Closing touch s₀ stage T (entryIn t n c))
+            (both b (both (not (openIn t n c)) (not (markIn (orderIn t n c)))))
         go true e =
             let h = listed-decides c l T .holds e in
             decides-iff
@@ -296,10 +300,12 @@ module _ {touch : ℕ → ℕ → Type 0} {touch? : ℕ → ℕ → Bool} {L : �
   unfolding chosenIn
   chosen-land T part c e =
       split (le-or-lt (levelIn t c) 0)
-      (λ l. true-not-false e (ap (λ (b : Bool). both b (wantsPart part (openIn t n c) (markIn (orderIn t n c)))) (test-blank t n T c (omega arith))))
+      (λ l. true-not-false e (ap (λ (b : Bool). both b (wantsPart part (openIn t n c) (markIn (orderIn t n c))))
+      (test-blank t n T c (omega arith))))
       (λ l. l)
 
-  module _ (fits : limit ≤ n) (T : ℕ) (part : Part) {u : List ℕ} {count : ℕ} (g : Collected t u n limit (chosenIn t n T part) count) where
+  module _ (fits : limit ≤ n) (T : ℕ) (part : Part) {u : List ℕ} {count : ℕ}
+      (g : Collected t u n limit (chosenIn t n T part) count) where
     word-same : (j : ℕ) → (n ≤ j → j < 2 * n → ⊥) → wordAt u j ≡ wordAt t j
     word-same j d = g .other j (λ a b. d a (let f = g .few in omega arith))
 
@@ -330,13 +336,15 @@ module _ {touch : ℕ → ℕ → Type 0} {touch? : ℕ → ℕ → Bool} {L : �
           omega arith;
     }
 
-    pub answer-order : (P : Entry → Type 0) → ((c : ℕ) → c < limit → Decides (P (entryIn t n c)) (chosenIn t n T part c))
+    pub answer-order : (P : Entry → Type 0)
+        → ((c : ℕ) → c < limit → Decides (P (entryIn t n c)) (chosenIn t n T part c))
         → ((e : Entry) → P e → PeakEntry touch L e) → InReadingOrder P (entriesIn u n count)
     answer-order P told right =
         places-order (λ i. entryIn u n (orderIn u n i)) P count
         (λ i j l m. rw (entry-cell u n (orderIn u n i), entry-cell u n (orderIn u n j)) (g .rising i j l m))
         (λ i l. let (b, e) = g .inside i l in
-        subst P (sym (entry-same (orderIn u n i) b (chosen-land T part (orderIn u n i) e))) (told (orderIn u n i) b .holds e))
+        subst P (sym (entry-same (orderIn u n i) b (chosen-land T part (orderIn u n i) e)))
+        (told (orderIn u n i) b .holds e))
         (λ e p.
         let (b, q) = entry-only e (right e p) in
         let f = passes (told (e .cell) b) (subst P q p) in

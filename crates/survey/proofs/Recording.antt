@@ -12,7 +12,7 @@ use lib.Dec.{eqb}
 use lib.ListN.{length, length-append}
 use Rattle.relief.specs.Heights.{heightOf}
 use Rattle.relief.specs.Peaks.{missing, key, Entry}
-use Rattle.words.specs.Area.{levelIn, orderIn, parentIn, passIn, cellIn}
+use Rattle.words.specs.Area.{levelIn, orderIn, parentIn}
 use Rattle.record.specs.declared.Peak.{Peak}
 use Rattle.record.specs.Records.{withKey, withoutKey, recordOf}
 use Rattle.sweep.specs.Taking.{passOf}
@@ -28,7 +28,11 @@ peak-record s n c = go (eqb (parentIn s n c) c)
           | true ↦ withoutKey c (heightOf (levelIn s c))
           | false ↦ withKey c (heightOf (levelIn s c)) (heightOf (levelIn s (passOf s n c))) (passOf s n c)
         ]
-        ≡ recordOf (record { cell = c; level = levelIn s c; key = pickKey b missing (key (levelIn s (passOf s n c)) (passOf s n c)) })
+        ≡ recordOf (record {
+          cell = c;
+          level = levelIn s c;
+          key = pickKey b missing (key (levelIn s (passOf s n c)) (passOf s n c));
+        })
     go true = refl
     go false = refl
 

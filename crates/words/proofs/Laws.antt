@@ -2,7 +2,7 @@
 --     word-below     a number of bytes fits in 32 bits
 --     store-word     four bytes stored make the number, and leave every other number as it was
 -- Assumes nothing.
-use mathlib.Core.Path.{_≡_, refl, sym, _∙_}
+use mathlib.Core.Path.{_≡_}
 use mathlib.Core.List.{List}
 use Prim.Native.Nat.{ℕ, _+_, _*_, _/_, _%_, _≤_, _<_}
 use native.Mathlib.Omega.{arith}
@@ -62,7 +62,8 @@ store-word s i v fits below =
     let b1 = v / 256 % 256 in
     let b2 = v / 65536 % 256 in
     let b3 = v / 16777216 in
-    let other : (j k : ℕ) → (j ≡ i → ⊥) → k < 4 → getD (fourAt s (4 * i) b0 b1 b2 b3) (4 * j + k) 0 ≡ getD s (4 * j + k) 0 = λ j k n l.
+    let other : (j k : ℕ) → (j ≡ i → ⊥) → k < 4
+    → getD (fourAt s (4 * i) b0 b1 b2 b3) (4 * j + k) 0 ≡ getD s (4 * j + k) 0 = λ j k n l.
     four-other s (4 * i) b0 b1 b2 b3 fits (4 * j + k) (omega arith) (omega arith) (omega arith) (omega arith) in
     record {
       here = rw (

@@ -1,6 +1,5 @@
 -- `words::mark_in` meets its contract, by the definition. Assumes nothing.
 use mathlib.Core.Path.{refl}
-use borrow.Author.Needs.{needs}
 use Rattle.words.specs.Area.{markIn}
 use Rattle.words.proofs.mark_in.Statement.{statement}
 use Rattle.words.proofs.mark_in.Tie as tie

@@ -1,8 +1,10 @@
+-- `words::put` meets its contract: a store keeps the length, so the four places stay inside, and the four bytes stored
+-- make the number (`store-word`). Assumes nothing.
 use native.Mathlib.Omega.{arith}
 use lib.ListN.{length-set}
 use denote.Ref.{now}
-use Rattle.words.proofs.Laws.{store-word}
 use borrow.Author.Needs.{needs}
+use Rattle.words.proofs.Laws.{store-word}
 use Rattle.words.proofs.put.Statement.{statement}
 use Rattle.words.proofs.put.Tie as tie
 

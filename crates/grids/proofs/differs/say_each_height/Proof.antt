@@ -1,10 +1,10 @@
--- `grids::show::say_each_height` is safe and ends.
+-- `grids::differs::say_each_height` is safe and ends.
 -- Nothing has to hold from turn to turn, and the measure is the number of turns that are left.
 -- Assumes nothing.
 use Prim.Native.Nat.{_-_}
 use native.Mathlib.Omega.{arith}
-use Rattle.grids.proofs.show.say_each_height.Statement.{statement}
-use Rattle.grids.proofs.show.say_each_height.Tie as tie
+use Rattle.grids.proofs.differs.say_each_height.Statement.{statement}
+use Rattle.grids.proofs.differs.say_each_height.Tie as tie
 
 abbrev Inv-loop : tie.InvT-loop
 Inv-loop heights cell₀ cell-end cell = Unit {0}

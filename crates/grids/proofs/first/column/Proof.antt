@@ -1,0 +1,18 @@
+-- `grids::first::column` is safe: what the column call promises of the work area is what reading its records asks.
+-- Assumes nothing.
+use borrow.Author.Needs.{needs}
+use Rattle.grids.proofs.Cells.{counted-at}
+use Rattle.grids.proofs.first.column.Statement.{statement}
+use Rattle.grids.proofs.first.column.Tie as tie
+
+handed-out-requires : tie.Need-handed-out-requires
+handed-out-requires c κs =
+    let called = c .before .before .before .before .before .before in
+    let cells = called .before .before .before in
+    λ n e. counted-at (cells .cells-with .ensures) (called .column-flat .ensures .counted n e .0)
+
+pub column-spec : {M : Type 1} → statement M
+column-spec =
+    tie.close
+    (tie.spec (λ c κs. search needs) (λ c κs. search needs) handed-out-requires (λ c. search needs)
+    (λ c. search needs) (λ c. search needs))
