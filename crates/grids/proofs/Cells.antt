@@ -1,7 +1,7 @@
 -- The cells of a run record: k columns of r rows, as the code has them, where both are numbers of 32 bits.
 --     product-fits, product-is    the product is a number of 64 bits, and is that of the record
 --     sum-fits, sum-is            so is the product with a column more
---     counted-at                  records that stand in a work area of so many cells, the number of cells as it was counted
+--     counted-at                  records in a work area of so many cells, by a number that is equal to it
 -- Assumes nothing.
 use mathlib.Core.Path.{_≡_, sym, subst, ap, _∙_}
 use mathlib.Core.List.{List}

@@ -11,5 +11,5 @@ slice-aggregate-column c = sym (c .before .before .before .lay .ensures)
 pub column-by-first-spec : {M : Type 1} → statement M
 column-by-first-spec =
     tie.close
-    (tie.spec (λ c κs. search needs) (λ c κs. search needs) (λ c κs. search needs) (λ c κs. search needs)
-    slice-aggregate-column (λ c. search needs) (λ c κs. search needs) (λ c. search needs))
+    (tie.spec (λ c κs. tt) (λ c κs. search needs) (λ c κs. tt) (λ c κs. tt)
+    slice-aggregate-column (λ c. search needs) (λ c κs. tt) (λ c. tt))

@@ -12,6 +12,6 @@ slice-aggregate-end c = sym (length-take-le _ _ (c .before .if1 .left))
 pub end-agrees-spec : {M : Type 1} → statement M
 end-agrees-spec =
     tie.close
-    (tie.spec (λ c. search needs) (λ c. search needs) slice-aggregate-end (λ c κs. search needs)
-    (λ c κs. search needs) (λ c κs. search needs) (λ c κs. search needs) (λ c κs. search needs)
-    (λ c. search needs) (λ c. search needs))
+    (tie.spec (λ c. tt) (λ c. search needs) slice-aggregate-end (λ c κs. tt)
+    (λ c κs. tt) (λ c κs. tt) (λ c κs. tt) (λ c κs. tt)
+    (λ c. tt) (λ c. tt))

@@ -12,5 +12,5 @@ slice-aggregate-whole c = sym (length-take-le _ _ (c .before .if1 .left))
 pub list-agrees-spec : {M : Type 1} → statement M
 list-agrees-spec =
     tie.close
-    (tie.spec (λ c. search needs) (λ c. search needs) slice-aggregate-whole (λ c κs. search needs)
-    (λ c κs. search needs) (λ c κs. search needs) (λ c. search needs))
+    (tie.spec (λ c. tt) (λ c. search needs) slice-aggregate-whole (λ c κs. tt)
+    (λ c κs. tt) (λ c κs. tt) (λ c. tt))

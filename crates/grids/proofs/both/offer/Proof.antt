@@ -12,6 +12,5 @@ slice-aggregate-column c = sym (length-take-le _ _ (c .before .before .if1 .left
 pub offer-spec : {M : Type 1} → statement M
 offer-spec =
     tie.close
-    (tie.spec (λ c. search needs) (λ c. search needs) slice-aggregate-column (λ c κs. search needs)
-    (λ c κs. search needs) (λ c κs. search needs) (λ c κs. search needs) (λ c κs. search needs)
-    (λ c. search needs) (λ c. search needs) (λ c. search needs) (λ c. search needs))
+    (tie.spec (λ c. tt) (λ c. search needs) slice-aggregate-column (λ c κs. tt) (λ c κs. tt) (λ c κs. tt)
+    (λ c κs. tt) (λ c κs. tt) (λ c. search needs) (λ c. tt) (λ c. search needs) (λ c. tt))

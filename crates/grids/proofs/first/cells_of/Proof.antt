@@ -6,7 +6,9 @@ use Rattle.grids.proofs.first.cells_of.Statement.{statement}
 use Rattle.grids.proofs.first.cells_of.Tie as tie
 
 mul-result : tie.Need-mul-result
-mul-result c = record { fits = product-fits (c .before .index .ensures) (c .index2 .ensures) (search needs) (search needs) }
+mul-result c =
+    let ek = c .before .index .ensures in
+    record { fits = product-fits ek (c .index2 .ensures) (search needs) (search needs) }
 
 returns : tie.Need-returns
 returns c = product-is (c .before .index .ensures) (c .index2 .ensures)

@@ -6,13 +6,15 @@ use Rattle.grids.proofs.first.cells_with.Statement.{statement}
 use Rattle.grids.proofs.first.cells_with.Tie as tie
 
 mul-result : tie.Need-mul-result
-mul-result c = record { fits = product-fits (c .before .index .ensures) (c .index2 .ensures) (search needs) (search needs) }
+mul-result c =
+    let ek = c .before .index .ensures in
+    record { fits = product-fits ek (c .index2 .ensures) (search needs) (search needs) }
 
 add-result : tie.Need-add-result
 add-result c =
-    record {
-      fits = sum-fits (c .before .before .index .ensures) (c .before .index2 .ensures) (c .index3 .ensures) (search needs) (search needs);
-    }
+    let ek = c .before .before .index .ensures in
+    let er = c .before .index2 .ensures in
+    record { fits = sum-fits ek er (c .index3 .ensures) (search needs) (search needs) }
 
 returns : tie.Need-returns
 returns c = sum-is (c .before .before .index .ensures) (c .before .index2 .ensures) (c .index3 .ensures)

@@ -14,5 +14,5 @@ handed-out-requires c κs =
 pub end-spec : {M : Type 1} → statement M
 end-spec =
     tie.close
-    (tie.spec (λ c κs. search needs) (λ c κs. search needs) handed-out-requires (λ c. search needs)
-    (λ c. search needs))
+    (tie.spec (λ c κs. tt) (λ c κs. tt) handed-out-requires (λ c. search needs)
+    (λ c. tt))

@@ -10,5 +10,5 @@ copied-requires c κs = c .before .before .before .before .before .pre _ (c .bef
 pub handed-out-spec : {M : Type 1} → statement M
 handed-out-spec =
     tie.close
-    (tie.spec (λ c. search needs) (λ c. search needs) copied-requires (λ c. search needs) (λ c κs. search needs)
-    (λ c. search needs) (λ c. search needs))
+    (tie.spec (λ c. search needs) (λ c. search needs) copied-requires (λ c. search needs) (λ c κs. tt)
+    (λ c. tt) (λ c. tt))

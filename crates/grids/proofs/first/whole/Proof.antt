@@ -1,4 +1,5 @@
--- `grids::first::whole` is safe: where the answer is a count, the call promises that the work area holds so many records.
+-- `grids::first::whole` is safe: where the answer is a count, the call promises that the work area holds so many
+-- records.
 -- Assumes nothing.
 use borrow.Author.Needs.{needs}
 use Rattle.grids.proofs.first.whole.Statement.{statement}

@@ -14,4 +14,5 @@ abbrev μ-loop : tie.MeasureT-loop
 
 pub append-spec : {M : Type 1} → statement M
 append-spec =
-    tie.close (tie.spec Inv-loop μ-loop (λ c. tt) (λ c κs. tt) (λ c. omega arith) (λ c. omega arith) (λ c. tt) (λ c. tt))
+    tie.close
+    (tie.spec Inv-loop μ-loop (λ c. tt) (λ c κs. tt) (λ c. omega arith) (λ c. omega arith) (λ c. tt) (λ c. tt))
