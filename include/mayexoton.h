@@ -4,7 +4,7 @@
  * A chromatogram is a grid of heights. A peak is a flat (a connected set of cells of one height) that no higher cell
  * touches; cells touch sidewise and at corners. Its key height is the greatest height at which it is joined to ground
  * that outranks it: a higher cell, or an equally high peak whose cell is earlier. Height less key height is its
- * prominence. The rules, word by word, are in docs/01-scope.md.
+ * prominence. The rules, word by word, are those of document 01; docs/PROMISES.md has what is proved.
  *
  * C99 and C++. All numbers in lent memory are 32 bits, little-endian, and need no alignment.
  */
