@@ -53,7 +53,7 @@ use Rattle.run.specs.Running.{
   Columns,
   Ends,
 }
-use Rattle.run.specs.Sessions.{Calls, started, accepted, refused, HoldsList}
+use Rattle.run.specs.Sessions.{Calls, started, accepted, refused, unended, HoldsList}
 use Rattle.run.specs.Claims.{ColumnUnique, EndUnique, SessionHolds}
 use Rattle.run.proofs.Columns.{column-passed, end-passed}
 
@@ -173,6 +173,8 @@ calls-told (accepted {run} {run′} {cells} {column} {grid} {grid′} {batches} 
     (subst (λ (x : List ℤ). Batch (Plane (run .rows)) (stageOf (run .rows) (run .columns) (x ++ column))
     (stageOf (run .rows) (suc (run .columns)) (x ++ column)) (run .threshold) (h .batch)) e (h .right))
 calls-told (refused {run} {run′} {cells} {batches = batches} c e h) =
+    subst (λ (r : Run). Told r cells batches) (sym (h .run-after)) (calls-told c)
+calls-told (unended {run} {run′} {cells} {batches = batches} c h) =
     subst (λ (r : Run). Told r cells batches) (sym (h .run-after)) (calls-told c)
 
 pub session-holds : SessionHolds

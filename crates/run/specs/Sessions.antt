@@ -18,9 +18,9 @@ use Rattle.record.specs.declared.Refusal.{Refusal}
 use Rattle.run.specs.declared.Run.{Run}
 use Rattle.run.specs.declared.Started.the-variants as Started
 use Rattle.run.specs.declared.Handed.the-variants.{Count, Refused}
-use Rattle.run.specs.Running.{takenOf, startAnswer, Columns}
+use Rattle.run.specs.Running.{takenOf, startAnswer, Columns, Ends}
 
--- Refused calls may stand between accepted ones, with any grid that still holds the taken cells.
+-- Refused calls of Column and End may stand between accepted ones, with any grid that still holds the taken cells.
 pub data Calls : Run → List ℤ → List (List Entry) → Type 0 where
   started : {run : Run} (rows T : ℕ) → startAnswer rows T ≡ Started.Begun run → Calls run [] []
   accepted : {run run′ : Run} {cells column grid grid′ : List ℤ} {batches : List (List Entry)} {work n : ℕ} {table table′ : List Peak}
@@ -30,6 +30,8 @@ pub data Calls : Run → List ℤ → List (List Entry) → Type 0 where
   refused : {run run′ : Run} {cells column grid grid′ : List ℤ} {batches : List (List Entry)} {work : ℕ} {table table′ : List Peak}
       {r : Refusal} → Calls run cells batches → take (takenOf run) grid ≡ cells
       → Columns run column grid grid′ work table table′ run′ (Refused r) → Calls run′ cells batches
+  unended : {run run′ : Run} {cells grid : List ℤ} {batches : List (List Entry)} {work : ℕ} {table table′ : List Peak}
+      {r : Refusal} → Calls run cells batches → Ends run grid work table table′ run′ (Refused r) → Calls run′ cells batches
 
 -- The j-th batch is what the call that took the j-th column closed. "The batches from start to end hold just the whole
 -- run's list, each peak once."
