@@ -6,4 +6,5 @@ pub mod Neighbours
 pub mod Bits
 pub mod Work
 pub mod Looking
+pub mod Taking
 pub mod Sweeping
