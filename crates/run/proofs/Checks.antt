@@ -3,22 +3,19 @@
 --     column-good, end-good    what the answer Good says
 --     product-fits, -wide      a product of columns and rows stays in 64 bits
 -- Assumes nothing.
-use mathlib.Core.Path.{_≡_, refl, sym, _∙_, ap, ap₂}
-use mathlib.Core.Bool.{Bool, true, false, not}
-use mathlib.Core.Logic.{_⊎_, inl, inr}
+use mathlib.Core.Path.{_≡_, sym, _∙_, ap₂}
+use mathlib.Core.Bool.{true, false}
 use Prim.Native.Nat.{ℕ, _+_, _*_, _≤_, _<_}
 use native.Mathlib.Nat.{mul-le-mul-right}
 use native.Mathlib.Omega.{arith}
 use lib.Dec.{eqb, ltb}
 use borrow.Author.Tests.{eq-eqb, ne-eqb, lt-ltb, le-ltb}
-use Rattle.relief.proofs.Deciding.{split, test, either, le-or-lt}
-use Rattle.record.specs.declared.Refusal.{Refusal}
+use Rattle.relief.proofs.Deciding.{either}
 use Rattle.record.specs.declared.Refusal.the-variants.{Rows, Cells, Work, Ended, ColumnLength, GridFull, TakenCells}
 use Rattle.run.specs.declared.Run.{Run}
 use Rattle.run.specs.declared.Started.the-variants as Started
-use Rattle.run.specs.declared.Checked.{Checked}
 use Rattle.run.specs.declared.Checked.the-variants.{Good, Bad}
-use Rattle.run.specs.Running.{badRows, pickChecked, takenOf, startAnswer, columnCheck, endCheck}
+use Rattle.run.specs.Running.{badRows, takenOf, startAnswer, columnCheck, endCheck}
 
 -- ---- rows
 

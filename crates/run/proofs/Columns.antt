@@ -7,18 +7,16 @@
 use mathlib.Core.Path.{_≡_, refl, sym, _∙_, ap, ap₂, subst, subst₂, fun-ext}
 use mathlib.Core.Bool.{Bool, true, false, not}
 use mathlib.Core.List.{List, _++_, map}
-use mathlib.Core.Logic.{_⊎_, inl, inr}
-use Prim.Native.Nat.{ℕ, zero, suc, _+_, _-_, _*_, _≤_, _<_}
+use Prim.Native.Nat.{ℕ, suc, _+_, _-_, _*_, _≤_, _<_}
 use native.Mathlib.Nat.{suc-mul, mul-one, mul-le-mul-left}
 use native.Mathlib.Numerals.{add-one}
 use native.Mathlib.Omega.{arith}
 use lib.Dec.{eqb, ltb}
 use lib.IntN.{ℤ}
-use lib.ListN.{length, take, drop, getD, set, length-take}
+use lib.ListN.{length, take, getD, set, length-take}
 use lib.Seq.{paste, paste-suc, length-paste, take-paste, take-length, take-take}
 use borrow.Author.Tests.{eqb-true, ltb-false, eqb-false, lt-ltb, le-ltb, not-false}
 use Rattle.relief.specs.Heights.{levels}
-use Rattle.relief.specs.Peaks.{Entry}
 use Rattle.relief.specs.Runs.{Stage, Batch, Rest, Closing, Remaining}
 use Rattle.relief.specs.Plane.{Plane, stageOf}
 use Rattle.relief.proofs.Deciding.{split, le-or-lt, either, true-not-false}
@@ -29,34 +27,17 @@ use Rattle.relief.proofs.PlaneRun.{levels-take}
 use Rattle.record.specs.declared.Refusal.{Refusal}
 use Rattle.record.specs.declared.Refusal.the-variants.{Table}
 use Rattle.record.specs.Records.{recordOf}
-use Rattle.words.specs.Area.{Area, levelIn}
+use Rattle.words.specs.Area.{levelIn}
 use Rattle.sweep.specs.Taking.{cut}
 use Rattle.sweep.proofs.Work.{cut-below, cut-behind}
 use Rattle.table.specs.Table.{Counted, recordsIn}
 use Rattle.survey.specs.Answers.{entriesIn, Loading, Loaded, Surveying, Answered, stageIn}
 use Rattle.survey.proofs.Recording.{places-record, places-length}
 use Rattle.run.specs.declared.Run.{Run}
-use Rattle.run.specs.declared.Handed.{Handed}
 use Rattle.run.specs.declared.Handed.the-variants.{Count, Refused}
 use Rattle.run.specs.declared.Checked.{Checked}
 use Rattle.run.specs.declared.Checked.the-variants.{Good, Bad}
-use Rattle.run.specs.Running.{
-  badRows,
-  pickChecked,
-  pickHanded,
-  handedAnswer,
-  takenOf,
-  heightsWith,
-  columnCheck,
-  endCheck,
-  columnRun,
-  endRun,
-  columnGrid,
-  GoodColumn,
-  GoodEnd,
-  FlatColumn,
-  FlatEnd,
-}
+use Rattle.run.specs.Running.{badRows, handedAnswer, takenOf, heightsWith, columnCheck, endCheck, columnGrid, GoodColumn, GoodEnd, FlatColumn, FlatEnd}
 
 -- ---- what passed tests say
 

@@ -6,27 +6,23 @@
 --     session-holds                so with End the batches hold the list
 -- Assumes nothing.
 use mathlib.Core.Path.{_≡_, refl, sym, _∙_, ap, ap₂, subst, subst₂}
-use mathlib.Core.Bool.{Bool, true, false}
 use mathlib.Core.List.{List, [], _∷_, _++_, map}
-use mathlib.Core.Logic.{_⊎_, inl, inr}
-use Prim.Native.Nat.{ℕ, zero, suc, _+_, _-_, _*_, _≤_, _<_}
+use Prim.Native.Nat.{ℕ, suc, _+_, _-_, _*_, _≤_, _<_}
 use native.Mathlib.Nat.{suc-mul, zero-mul, mul-le-mul-right, not-suc-le-zero}
 use native.Mathlib.Numerals.{add-one}
 use native.Mathlib.Omega.{arith}
-use lib.Dec.{ltb}
 use lib.IntN.{ℤ}
 use lib.ListN.{length, take, getD, length-append, List·getD-append}
 use lib.Seq.{take-append-le, take-all, getD-append-seam}
 use Rattle.relief.specs.Heights.{levels}
 use Rattle.relief.specs.Peaks.{Entry}
-use Rattle.relief.specs.Lists.{Member, ListOf}
+use Rattle.relief.specs.Lists.{ListOf}
 use Rattle.relief.specs.Runs.{Stage, Batch, Rest}
 use Rattle.relief.specs.Plane.{Plane, stageOf}
 use Rattle.relief.specs.Claims.{Handing}
 use Rattle.relief.proofs.Deciding.{split, test, below-suc}
 use Rattle.relief.proofs.Listing.{order-unique}
 use Rattle.relief.proofs.Claims.{claims}
-use Rattle.record.specs.declared.Peak.{Peak}
 use Rattle.record.specs.declared.Refusal.{Refusal}
 use Rattle.record.specs.Records.{recordOf}
 use Rattle.run.specs.declared.Run.{Run}
@@ -36,26 +32,10 @@ use Rattle.run.specs.declared.Checked.{Checked}
 use Rattle.run.specs.declared.Checked.the-variants.{Good, Bad}
 use Rattle.run.specs.declared.Started.{Started}
 use Rattle.run.specs.declared.Started.the-variants as Start
-use Rattle.run.specs.Running.{
-  badRows,
-  takenOf,
-  heightsWith,
-  pickStarted,
-  startAnswer,
-  pickHanded,
-  handedAnswer,
-  columnCheck,
-  endCheck,
-  columnRun,
-  endRun,
-  columnGrid,
-  tableAfter,
-  Columns,
-  Ends,
-}
-use Rattle.run.specs.Sessions.{Calls, started, accepted, refused, unended, HoldsList}
+use Rattle.run.specs.Running.{badRows, takenOf, startAnswer, handedAnswer, columnCheck, endCheck, columnRun, endRun, tableAfter}
+use Rattle.run.specs.Sessions.{Calls, started, accepted, refused, unended}
 use Rattle.run.specs.Claims.{ColumnUnique, EndUnique, SessionHolds}
-use Rattle.run.proofs.Columns.{column-passed, end-passed}
+use Rattle.run.proofs.Columns.{column-passed}
 
 -- ---- one outcome
 

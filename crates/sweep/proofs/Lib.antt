@@ -6,5 +6,6 @@ pub mod Neighbours
 pub mod Bits
 pub mod Work
 pub mod Looking
+pub mod Telling
 pub mod Taking
 pub mod Sweeping

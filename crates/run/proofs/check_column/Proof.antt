@@ -1,4 +1,3 @@
-use native.Mathlib.Omega.{arith}
 use Rattle.run.proofs.Checks as Checks
 use borrow.Author.Needs.{needs}
 use Rattle.run.proofs.check_column.Statement.{statement}

@@ -1,7 +1,7 @@
 -- `grids::answers::lay` is safe and ends, and the grid keeps its length, which a store does not change. The measure is
 -- the number of turns that are left.
 -- Assumes nothing.
-use mathlib.Core.Path.{_≡_, _∙_}
+use mathlib.Core.Path.{_≡_}
 use Prim.Native.Nat.{_-_}
 use native.Mathlib.Omega.{arith}
 use lib.ListN.{length}
