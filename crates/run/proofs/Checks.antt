@@ -79,7 +79,8 @@ module _ (run : Run) (offered grid work : ℕ) where
     taken-grid l = exceeds-grid grid (takenOf run) (let e = taken-is in omega arith)
 
     taken-limit : k * r ≤ grid → 1048576 < k * r → either (ltb grid (takenOf run)) (ltb 1048576 (takenOf run)) ≡ true
-    taken-limit l m = exceeds-limit grid (takenOf run) (let e = taken-is in omega arith) (let e = taken-is in omega arith)
+    taken-limit l m = exceeds-limit grid (takenOf run) (let e = taken-is in omega arith)
+        (let e = taken-is in omega arith)
 
     pub column-grid : grid < k * r → Bad TakenCells ≡ columnCheck run offered grid work
     unfolding columnCheck
@@ -140,8 +141,15 @@ module _ (run : Run) (offered grid work : ℕ) where
 
             pub column-full : grid < k * r + r → Bad GridFull ≡ columnCheck run offered grid work
             unfolding columnCheck
-            column-full l = simp
-                (rows, taken-none, going, same, few-is, lt-ltb grid (takenOf run + run .rows) (let e = sum-is in omega arith))
+            column-full l = simp (
+              rows,
+              taken-none,
+              going,
+              same,
+              few-is,
+              lt-ltb grid (takenOf run + run .rows)
+                  (let e = sum-is in omega arith),
+            )
 
             module _ (room : k * r + r ≤ grid) where
               room-is : ltb grid (takenOf run + run .rows) ≡ false

@@ -37,7 +37,19 @@ use Rattle.run.specs.declared.Run.{Run}
 use Rattle.run.specs.declared.Handed.the-variants.{Count, Refused}
 use Rattle.run.specs.declared.Checked.{Checked}
 use Rattle.run.specs.declared.Checked.the-variants.{Good, Bad}
-use Rattle.run.specs.Running.{badRows, handedAnswer, takenOf, heightsWith, columnCheck, endCheck, columnGrid, GoodColumn, GoodEnd, FlatColumn, FlatEnd}
+use Rattle.run.specs.Running.{
+  badRows,
+  handedAnswer,
+  takenOf,
+  heightsWith,
+  columnCheck,
+  endCheck,
+  columnGrid,
+  GoodColumn,
+  GoodEnd,
+  FlatColumn,
+  FlatEnd,
+}
 
 -- ---- what passed tests say
 
@@ -102,8 +114,10 @@ module _ (run : Run) (offered grid work : ℕ) where
 
 -- ---- the copy of a column
 
-pub copied : (grid : List ℤ) (at : ℕ) (column : List ℤ) (i : ℕ) (z : ℤ) {now : List ℤ} {v : ℤ} → at + length column ≤ length grid
-    → i < length column → now ≡ paste grid at column i → v ≡ getD column i z → set now (at + i) v ≡ paste grid at column (i + 1)
+pub copied : (grid : List ℤ) (at : ℕ) (column : List ℤ) (i : ℕ) (z : ℤ) {now : List ℤ} {v : ℤ}
+    → at + length column ≤ length grid
+    → i < length column → now ≡ paste grid at column i → v ≡ getD column i z
+    → set now (at + i) v ≡ paste grid at column (i + 1)
 copied grid at column i z {now} {v} fits l e f =
     ap₂ (λ (g : List ℤ) (x : ℤ). set g (at + i) x) e f ∙ paste-suc grid at column i z (omega arith) l
     ∙ ap (paste grid at column) (sym (add-one i))
@@ -120,8 +134,10 @@ loaded-stage {s} {t} {heights} {n} {m} h l = fun-ext λ c.
     (λ k. cut-below m (levelIn t) c k ∙ h .levels-in c (omega arith) ∙ sym (levels-take heights m c k))
 
 -- the stage of a survey is that of the definition, where the cells are the same
-stage-is : (rows columns : ℕ) (whole : List ℤ) {s t : List ℕ} {heights : List ℤ} {n : ℕ} → Loaded s t heights n → columns * rows ≤ n
-    → take (columns * rows) heights ≡ take (columns * rows) whole → stageIn t (columns * rows) rows ≡ stageOf rows columns whole
+stage-is : (rows columns : ℕ) (whole : List ℤ) {s t : List ℕ} {heights : List ℤ} {n : ℕ} → Loaded s t heights n
+    → columns * rows ≤ n
+    → take (columns * rows) heights ≡ take (columns * rows) whole
+    → stageIn t (columns * rows) rows ≡ stageOf rows columns whole
 stage-is rows columns whole h l e = λ i. record {
   level = (loaded-stage h l ∙ ap levels e) i;
   cells = columns * rows;
@@ -152,8 +168,10 @@ module _ (run : Run) (column grid : List ℤ) (work room : ℕ) (left : List ℕ
   pub column-refused : {r : Refusal} → Bad r ≡ columnCheck run (length column) (length grid) work
       → FlatColumn run column grid grid work room left run (Refused r)
   column-refused e = record {
-    batch = surveyBatch (plane? (run .rows)) (stageOf (run .rows) (run .columns) whole) (stageOf (run .rows) (suc (run .columns)) whole) (run .threshold);
-    right = survey-batch (plane-staged (run .rows) (run .columns) whole) (plane-staged (run .rows) (suc (run .columns)) whole) (run .threshold);
+    batch = surveyBatch (plane? (run .rows)) (stageOf (run .rows) (run .columns) whole)
+        (stageOf (run .rows) (suc (run .columns)) whole) (run .threshold);
+    right = survey-batch (plane-staged (run .rows) (run .columns) whole)
+        (plane-staged (run .rows) (suc (run .columns)) whole) (run .threshold);
     answered = answer-bad room _ e;
     run-after = refl;
     grid-after = ap (λ (c : Checked). columnGrid c run column grid) e;
@@ -161,7 +179,8 @@ module _ (run : Run) (column grid : List ℤ) (work room : ℕ) (left : List ℕ
     records = λ n q. absurd (refused-count q);
   }
 
-  pub end-refused : {r : Refusal} → Bad r ≡ endCheck run (length grid) work → FlatEnd run grid work room left run (Refused r)
+  pub end-refused : {r : Refusal} → Bad r ≡ endCheck run (length grid) work
+      → FlatEnd run grid work room left run (Refused r)
   end-refused e = record {
     rest = surveyRest (plane? (run .rows)) (stageOf (run .rows) (run .columns) grid) (run .threshold);
     right = survey-rest (plane-staged (run .rows) (run .columns) grid) (run .threshold);
@@ -176,7 +195,8 @@ module _ (run : Run) (column grid : List ℤ) (work room : ℕ) (left : List ℕ
   module _ (g : GoodColumn run (length column) (length grid) work) {s t : List ℕ} {k : ℕ}
       (loaded : Loaded s t (paste grid (takenOf run) column (length column)) (takenOf run + run .rows))
       (made : Answered t left (takenOf run + run .rows)
-      (Closing (Plane (run .rows)) (stageIn t (takenOf run) (run .rows)) (stageIn t (takenOf run + run .rows) (run .rows)) (run .threshold)) k) where
+      (Closing (Plane (run .rows)) (stageIn t (takenOf run) (run .rows))
+      (stageIn t (takenOf run + run .rows) (run .rows)) (run .threshold)) k) where
     copy : List ℤ
     copy = paste grid (takenOf run) column (length column)
 
@@ -194,25 +214,31 @@ module _ (run : Run) (column grid : List ℤ) (work room : ℕ) (left : List ℕ
 
     stage-before : stageIn t (takenOf run) (run .rows) ≡ stageOf (run .rows) (run .columns) whole
     unfolding copy
-    stage-before = stage-is (run .rows) (run .columns) whole loaded (omega arith) (copy-take (takenOf run) (omega arith))
+    stage-before = stage-is (run .rows) (run .columns) whole loaded (omega arith)
+        (copy-take (takenOf run) (omega arith))
 
     stage-after : stageIn t (takenOf run + run .rows) (run .rows) ≡ stageOf (run .rows) (suc (run .columns)) whole
     unfolding copy
     stage-after =
         let e = suc-mul (run .columns) (run .rows) in
         ap (λ (m : ℕ). stageIn t m (run .rows)) (sym e)
-        ∙ stage-is (run .rows) (suc (run .columns)) whole loaded (omega arith) (copy-take (suc (run .columns) * run .rows) (omega arith))
+        ∙ stage-is (run .rows) (suc (run .columns)) whole loaded (omega arith)
+        (copy-take (suc (run .columns) * run .rows) (omega arith))
 
-    batch-right : Batch (Plane (run .rows)) (stageOf (run .rows) (run .columns) whole) (stageOf (run .rows) (suc (run .columns)) whole)
+    batch-right : Batch (Plane (run .rows)) (stageOf (run .rows) (run .columns) whole)
+        (stageOf (run .rows) (suc (run .columns)) whole)
         (run .threshold) (entriesIn left (takenOf run + run .rows) k)
     batch-right =
-        subst₂ (λ (a b : Stage). Batch (Plane (run .rows)) a b (run .threshold) (entriesIn left (takenOf run + run .rows) k))
+        subst₂ (λ (a b : Stage). Batch (Plane (run .rows)) a b (run .threshold)
+        (entriesIn left (takenOf run + run .rows) k))
         stage-before stage-after (made .order)
 
     batch-length : length (entriesIn left (takenOf run + run .rows) k) ≡ k
     batch-length = places-length _ k
 
-    pub column-short : {m : ℕ} → m ≡ k → room < k → FlatColumn run column grid (paste grid (takenOf run) column (length column)) work room left run (Refused (Table m))
+    pub column-short : {m : ℕ} → m ≡ k → room < k
+        → FlatColumn run column grid (paste grid (takenOf run) column (length column)) work room left run
+        (Refused (Table m))
     column-short e l = record {
       batch = entriesIn left (takenOf run + run .rows) k;
       right = batch-right;
@@ -225,7 +251,8 @@ module _ (run : Run) (column grid : List ℤ) (work room : ℕ) (left : List ℕ
 
     pub column-count : {m : ℕ} → m ≡ k → k ≤ room
         → FlatColumn run column grid (paste grid (takenOf run) column (length column)) work room left
-        (record { rows = run .rows; columns = run .columns + 1; threshold = run .threshold; ended = run .ended }) (Count m)
+        (record { rows = run .rows; columns = run .columns + 1; threshold = run .threshold; ended = run .ended })
+        (Count m)
     column-count e l = record {
       batch = entriesIn left (takenOf run + run .rows) k;
       right = batch-right;
@@ -235,15 +262,18 @@ module _ (run : Run) (column grid : List ℤ) (work room : ℕ) (left : List ℕ
       counted = λ n q. let f = sym e ∙ count-same q in
           (subst (Counted left (takenOf run + run .rows)) f (made .counted), subst (λ (x : ℕ). x ≤ room) f l);
       records = λ n q. let f = sym e ∙ count-same q in
-          subst (λ (x : ℕ). recordsIn left (takenOf run + run .rows) x ≡ map recordOf (entriesIn left (takenOf run + run .rows) k)) f
+          subst (λ (x : ℕ). recordsIn left (takenOf run + run .rows) x ≡ map recordOf
+          (entriesIn left (takenOf run + run .rows) k)) f
           (places-record left (takenOf run + run .rows) k);
     }
 
   -- ---- End
 
   module _ (g : GoodEnd run (length grid) work) {s t : List ℕ} {k : ℕ} (loaded : Loaded s t grid (takenOf run))
-      (made : Answered t left (takenOf run) (Remaining (Plane (run .rows)) (stageIn t (takenOf run) (run .rows)) (run .threshold)) k) where
-    rest-right : Rest (Plane (run .rows)) (stageOf (run .rows) (run .columns) grid) (run .threshold) (entriesIn left (takenOf run) k)
+      (made : Answered t left (takenOf run)
+      (Remaining (Plane (run .rows)) (stageIn t (takenOf run) (run .rows)) (run .threshold)) k) where
+    rest-right : Rest (Plane (run .rows)) (stageOf (run .rows) (run .columns) grid) (run .threshold)
+        (entriesIn left (takenOf run) k)
     rest-right =
         subst (λ (a : Stage). Rest (Plane (run .rows)) a (run .threshold) (entriesIn left (takenOf run) k))
         (stage-is (run .rows) (run .columns) grid loaded (omega arith) refl) (made .order)
@@ -278,7 +308,8 @@ module _ (run : Run) (column grid : List ℤ) (work room : ℕ) (left : List ℕ
 
 -- ---- the same, with the rows and columns as the code has them
 
-module _ (run : Run) (column grid : List ℤ) (work room : ℕ) (left : List ℕ) (g : GoodColumn run (length column) (length grid) work)
+module _ (run : Run) (column grid : List ℤ) (work room : ℕ) (left : List ℕ)
+    (g : GoodColumn run (length column) (length grid) work)
     {r k : ℕ} (er : r ≡ run .rows) (ek : k ≡ run .columns) where
   product : k * r ≡ takenOf run
   product = ap₂ (λ (x y : ℕ). x * y) ek er
@@ -289,7 +320,8 @@ module _ (run : Run) (column grid : List ℤ) (work room : ℕ) (left : List ℕ
   pub column-copying : k * r + length column ≤ length grid
   column-copying = let e = product in let h = g .fits in let i = g .whole in omega arith
 
-  pub column-loading : {copied : List ℤ} {bytes : List ℕ} → copied ≡ paste grid (k * r) column (length column) → length bytes ≡ work
+  pub column-loading : {copied : List ℤ} {bytes : List ℕ} → copied ≡ paste grid (k * r) column (length column)
+      → length bytes ≡ work
       → Loading bytes copied (k * r + r)
   column-loading {copied} e f =
       let p = product in
@@ -298,7 +330,8 @@ module _ (run : Run) (column grid : List ℤ) (work room : ℕ) (left : List ℕ
       let i = g .whole in
       record { area = record { few = column-sum; room = let s = g .space in omega arith }; all = omega arith }
 
-  pub column-surveying : {bytes t : List ℕ} {heights : List ℤ} → length bytes ≡ work → Loaded bytes t heights (k * r + r)
+  pub column-surveying : {bytes t : List ℕ} {heights : List ℤ} → length bytes ≡ work
+      → Loaded bytes t heights (k * r + r)
       → Surveying t (k * r + r) r × (k * r ≤ k * r + r)
   column-surveying e h =
       let p = product in
@@ -329,7 +362,8 @@ module _ (run : Run) (column grid : List ℤ) (work room : ℕ) (left : List ℕ
     loaded-is = subst₂ (Loaded s t) paste-is (ap₂ (λ (x y : ℕ). x + y) product er) loaded
 
     made-is : Answered t left (takenOf run + run .rows)
-        (Closing (Plane (run .rows)) (stageIn t (takenOf run) (run .rows)) (stageIn t (takenOf run + run .rows) (run .rows)) (run .threshold)) n
+        (Closing (Plane (run .rows)) (stageIn t (takenOf run) (run .rows))
+        (stageIn t (takenOf run + run .rows) (run .rows)) (run .threshold)) n
     made-is = rw (er, ek) at made
 
     pub code-short : room < n → FlatColumn run column grid copied work room left run (Refused (Table n))
@@ -339,10 +373,12 @@ module _ (run : Run) (column grid : List ℤ) (work room : ℕ) (left : List ℕ
 
     pub code-count : n ≤ room
         → FlatColumn run column grid copied work room left
-        (record { rows = run .rows; columns = run .columns + 1; threshold = run .threshold; ended = run .ended }) (Count n)
+        (record { rows = run .rows; columns = run .columns + 1; threshold = run .threshold; ended = run .ended })
+        (Count n)
     code-count l =
         subst (λ (c : List ℤ). FlatColumn run column grid c work room left
-        (record { rows = run .rows; columns = run .columns + 1; threshold = run .threshold; ended = run .ended }) (Count n))
+        (record { rows = run .rows; columns = run .columns + 1; threshold = run .threshold; ended = run .ended })
+        (Count n))
         (sym paste-is) (column-count run column grid work room left g loaded-is made-is refl l)
 
 module _ (run : Run) (grid : List ℤ) (work room : ℕ) (left : List ℕ) (g : GoodEnd run (length grid) work)

@@ -32,7 +32,17 @@ use Rattle.run.specs.declared.Checked.{Checked}
 use Rattle.run.specs.declared.Checked.the-variants.{Good, Bad}
 use Rattle.run.specs.declared.Started.{Started}
 use Rattle.run.specs.declared.Started.the-variants as Start
-use Rattle.run.specs.Running.{badRows, takenOf, startAnswer, handedAnswer, columnCheck, endCheck, columnRun, endRun, tableAfter}
+use Rattle.run.specs.Running.{
+  badRows,
+  takenOf,
+  startAnswer,
+  handedAnswer,
+  columnCheck,
+  endCheck,
+  columnRun,
+  endRun,
+  tableAfter,
+}
 use Rattle.run.specs.Sessions.{Calls, started, accepted, refused, unended}
 use Rattle.run.specs.Claims.{ColumnUnique, EndUnique, SessionHolds}
 use Rattle.run.proofs.Columns.{column-passed}
@@ -44,7 +54,8 @@ column-unique run run′ run″ column grid g h work table t u a b p q =
     let e : p .batch ≡ q .batch = order-unique (p .batch) (q .batch) (p .right) (q .right) in
     let f : a ≡ b =
     p .answered
-    ∙ ap (λ (l : List Entry). handedAnswer (columnCheck run (length column) (length grid) work) (length table) (length l)) e
+    ∙ ap (λ (l : List Entry). handedAnswer (columnCheck run (length column) (length grid) work) (length table)
+    (length l)) e
     ∙ sym (q .answered) in (
       f,
       p .run-after ∙ ap (λ (x : Handed). columnRun x run) f ∙ sym (q .run-after),
@@ -75,7 +86,8 @@ pub record Told (run : Run) (cells : List ℤ) (batches : List (List Entry)) : T
   pub whole : length cells ≡ takenOf run
   pub many : run .columns ≡ length batches
   pub closes : (j : ℕ) → j < length batches
-      → Batch (Plane (run .rows)) (stageOf (run .rows) j cells) (stageOf (run .rows) (suc j) cells) (run .threshold) (getD batches j [])
+      → Batch (Plane (run .rows)) (stageOf (run .rows) j cells) (stageOf (run .rows) (suc j) cells) (run .threshold)
+      (getD batches j [])
 
 -- further cells leave an earlier stage as it is
 stage-front : (rows j : ℕ) (cells more : List ℤ) → j * rows ≤ length cells
@@ -89,20 +101,22 @@ told-more : (run run′ : Run) (cells column : List ℤ) (batches : List (List E
     → Batch (Plane (run .rows)) (stageOf (run .rows) (run .columns) (cells ++ column))
     (stageOf (run .rows) (suc (run .columns)) (cells ++ column)) (run .threshold) b
     → Told run′ (cells ++ column) (batches ++ (b ∷ []))
-told-more run run′ cells column batches b n t e f h = subst (λ (r : Run). Told r (cells ++ column) (batches ++ (b ∷ []))) (sym f) (record {
-  whole =
-      let m = suc-mul (run .columns) (run .rows) in
-      let w = t .whole in
-      length-append cells column ∙ (let q = add-one (run .columns) in
-      let p = ap (λ (x : ℕ). x * run .rows) q in omega arith);
-  many = let w = t .many in let l = length-append batches (b ∷ []) in omega arith;
-  closes = λ j l.
-      let k = length-append batches (b ∷ []) in
-      split (below-suc j (length batches) (omega arith)) (here j) (earlier j);
-})
+told-more run run′ cells column batches b n t e f h =
+    subst (λ (r : Run). Told r (cells ++ column) (batches ++ (b ∷ []))) (sym f) (record {
+      whole =
+          let m = suc-mul (run .columns) (run .rows) in
+          let w = t .whole in
+          length-append cells column ∙ (let q = add-one (run .columns) in
+          let p = ap (λ (x : ℕ). x * run .rows) q in omega arith);
+      many = let w = t .many in let l = length-append batches (b ∷ []) in omega arith;
+      closes = λ j l.
+          let k = length-append batches (b ∷ []) in
+          split (below-suc j (length batches) (omega arith)) (here j) (earlier j);
+    })
   where
     here : (j : ℕ) → j ≡ length batches
-        → Batch (Plane (run .rows)) (stageOf (run .rows) j (cells ++ column)) (stageOf (run .rows) (suc j) (cells ++ column))
+        → Batch (Plane (run .rows)) (stageOf (run .rows) j (cells ++ column))
+        (stageOf (run .rows) (suc j) (cells ++ column))
         (run .threshold) (getD (batches ++ (b ∷ [])) j [])
     here j q =
         let c : j ≡ run .columns = q ∙ sym (t .many) in
@@ -112,7 +126,8 @@ told-more run run′ cells column batches b n t e f h = subst (λ (r : Run). Tol
         (stageOf (run .rows) (suc i) (cells ++ column)) (run .threshold) x) (sym c) (sym g) h
 
     earlier : (j : ℕ) → j < length batches
-        → Batch (Plane (run .rows)) (stageOf (run .rows) j (cells ++ column)) (stageOf (run .rows) (suc j) (cells ++ column))
+        → Batch (Plane (run .rows)) (stageOf (run .rows) j (cells ++ column))
+        (stageOf (run .rows) (suc j) (cells ++ column))
         (run .threshold) (getD (batches ++ (b ∷ [])) j [])
     earlier j l =
         let m = t .many in
@@ -123,7 +138,8 @@ told-more run run′ cells column batches b n t e f h = subst (λ (r : Run). Tol
         subst (λ (x : List Entry). Batch (Plane (run .rows)) (stageOf (run .rows) j (cells ++ column))
         (stageOf (run .rows) (suc j) (cells ++ column)) (run .threshold) x) (sym g)
         (subst₂ (λ (x y : Stage). Batch (Plane (run .rows)) x y (run .threshold) (getD batches j []))
-        (stage-front (run .rows) j cells column (omega arith)) (stage-front (run .rows) (suc j) cells column (omega arith))
+        (stage-front (run .rows) j cells column (omega arith))
+        (stage-front (run .rows) (suc j) cells column (omega arith))
         (t .closes j l))
 
 begun-same : {x y : Run} → Start.Begun x ≡ Start.Begun y → x ≡ y
@@ -143,12 +159,14 @@ told-begun rows T run e =
       closes = λ j l. absurd (not-suc-le-zero l);
     }))
 
-pub calls-told : {run : Run} {cells : List ℤ} {batches : List (List Entry)} → Calls run cells batches → Told run cells batches
+pub calls-told : {run : Run} {cells : List ℤ} {batches : List (List Entry)} → Calls run cells batches
+    → Told run cells batches
 calls-told (started {run} rows T e) = told-begun rows T run e
 calls-told (accepted {run} {run′} {cells} {column} {grid} {grid′} {batches} {work} {n} {table} c e h) =
     let t = calls-told c in
     let g = column-passed run (length column) (length grid) work
-    (counted-good (columnCheck run (length column) (length grid) work) (length table) (length (h .batch)) n (h .answered)) in
+    (counted-good (columnCheck run (length column) (length grid) work) (length table) (length (h .batch)) n
+    (h .answered)) in
     told-more run run′ cells column batches (h .batch) n t (g .whole) (h .run-after)
     (subst (λ (x : List ℤ). Batch (Plane (run .rows)) (stageOf (run .rows) (run .columns) (x ++ column))
     (stageOf (run .rows) (suc (run .columns)) (x ++ column)) (run .threshold) (h .batch)) e (h .right))
@@ -189,11 +207,13 @@ session-holds run run′ cells grid batches work n table table′ c e h =
         → ListOf (Plane (run .rows)) (levels (take (length batches * run .rows) cells)) (run .threshold) l
     listed t l k = subst (λ (x : List ℤ). ListOf (Plane (run .rows)) (levels x) (run .threshold) l) (sym (all t)) k
 
-    ended : Told run cells batches → Rest (Plane (run .rows)) (stageOf (run .rows) (length batches) cells) (run .threshold) (h .rest)
+    ended : Told run cells batches
+        → Rest (Plane (run .rows)) (stageOf (run .rows) (length batches) cells) (run .threshold) (h .rest)
     ended t = subst (λ (s : Stage). Rest (Plane (run .rows)) s (run .threshold) (h .rest)) same (h .right)
       where
         same : stageOf (run .rows) (run .columns) grid ≡ stageOf (run .rows) (length batches) cells
         same =
             ap (λ (k : ℕ). stageOf (run .rows) k grid) (t .many)
-            ∙ ap (λ (x : List ℤ). record { level = levels x; cells = length batches * run .rows; newest = length batches * run .rows - run .rows })
+            ∙ ap (λ (x : List ℤ). record
+            { level = levels x; cells = length batches * run .rows; newest = length batches * run .rows - run .rows })
             (ap (λ (k : ℕ). take (k * run .rows) grid) (sym (t .many)) ∙ e ∙ sym (all t))

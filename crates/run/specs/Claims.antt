@@ -26,7 +26,8 @@ EndUnique = (run run′ run″ : Run) (grid : List ℤ) (work : ℕ) (table t u 
 
 -- From Start to an accepted End.
 abbrev pub SessionHolds : Type 0
-SessionHolds = (run run′ : Run) (cells grid : List ℤ) (batches : List (List Entry)) (work n : ℕ) (table table′ : List Peak)
+SessionHolds = (run run′ : Run) (cells grid : List ℤ) (batches : List (List Entry)) (work n : ℕ)
+    (table table′ : List Peak)
     → Calls run cells batches → take (takenOf run) grid ≡ cells → (e : Ends run grid work table table′ run′ (Count n))
     → HoldsList (run .rows) (run .threshold) cells batches (e .rest)
 

@@ -18,7 +18,16 @@ use Rattle.relief.specs.Runs.{Batch, Rest}
 use Rattle.relief.specs.Plane.{Plane, stageOf}
 use Rattle.relief.proofs.Deciding.{either}
 use Rattle.record.specs.declared.Peak.{Peak}
-use Rattle.record.specs.declared.Refusal.the-variants.{Rows, Cells, Work, Table, Ended, ColumnLength, GridFull, TakenCells}
+use Rattle.record.specs.declared.Refusal.the-variants.{
+  Rows,
+  Cells,
+  Work,
+  Table,
+  Ended,
+  ColumnLength,
+  GridFull,
+  TakenCells,
+}
 use Rattle.record.specs.Records.{recordOf}
 use Rattle.table.specs.Table.{Counted, recordsIn}
 use Rattle.run.specs.declared.Run.{Run}
@@ -112,16 +121,19 @@ tableAfter (Refused r) records table = table
 abbrev pub heightsWith : Run → List ℤ → List ℤ → List ℤ
 heightsWith run column grid = take (takenOf run) grid ++ column
 
-pub record Columns (run : Run) (column grid grid′ : List ℤ) (work : ℕ) (table table′ : List Peak) (run′ : Run) (answer : Handed) : Type 0 where
+pub record Columns (run : Run) (column grid grid′ : List ℤ) (work : ℕ) (table table′ : List Peak) (run′ : Run)
+    (answer : Handed) : Type 0 where
   pub batch : List Entry
   pub right : Batch (Plane (run .rows)) (stageOf (run .rows) (run .columns) (heightsWith run column grid))
       (stageOf (run .rows) (suc (run .columns)) (heightsWith run column grid)) (run .threshold) batch
-  pub answered : answer ≡ handedAnswer (columnCheck run (length column) (length grid) work) (length table) (length batch)
+  pub answered : answer ≡ handedAnswer (columnCheck run (length column) (length grid) work) (length table)
+      (length batch)
   pub run-after : run′ ≡ columnRun answer run
   pub grid-after : grid′ ≡ columnGrid (columnCheck run (length column) (length grid) work) run column grid
   pub filled : table′ ≡ tableAfter answer (map recordOf batch) table
 
-pub record Ends (run : Run) (grid : List ℤ) (work : ℕ) (table table′ : List Peak) (run′ : Run) (answer : Handed) : Type 0 where
+pub record Ends (run : Run) (grid : List ℤ) (work : ℕ) (table table′ : List Peak) (run′ : Run)
+    (answer : Handed) : Type 0 where
   pub rest : List Entry
   pub right : Rest (Plane (run .rows)) (stageOf (run .rows) (run .columns) grid) (run .threshold) rest
   pub answered : answer ≡ handedAnswer (endCheck run (length grid) work) (length table) (length rest)
@@ -129,7 +141,8 @@ pub record Ends (run : Run) (grid : List ℤ) (work : ℕ) (table table′ : Lis
   pub filled : table′ ≡ tableAfter answer (map recordOf rest) table
 
 -- The same where only the room of the row is known: the records stand in the work area `left`.
-pub record FlatColumn (run : Run) (column grid grid′ : List ℤ) (work room : ℕ) (left : List ℕ) (run′ : Run) (answer : Handed) : Type 0 where
+pub record FlatColumn (run : Run) (column grid grid′ : List ℤ) (work room : ℕ) (left : List ℕ) (run′ : Run)
+    (answer : Handed) : Type 0 where
   pub batch : List Entry
   pub right : Batch (Plane (run .rows)) (stageOf (run .rows) (run .columns) (heightsWith run column grid))
       (stageOf (run .rows) (suc (run .columns)) (heightsWith run column grid)) (run .threshold) batch
@@ -139,7 +152,8 @@ pub record FlatColumn (run : Run) (column grid grid′ : List ℤ) (work room : 
   pub counted : (n : ℕ) → answer ≡ Count n → Counted left (takenOf run + run .rows) n × (n ≤ room)
   pub records : (n : ℕ) → answer ≡ Count n → recordsIn left (takenOf run + run .rows) n ≡ map recordOf batch
 
-pub record FlatEnd (run : Run) (grid : List ℤ) (work room : ℕ) (left : List ℕ) (run′ : Run) (answer : Handed) : Type 0 where
+pub record FlatEnd (run : Run) (grid : List ℤ) (work room : ℕ) (left : List ℕ) (run′ : Run)
+    (answer : Handed) : Type 0 where
   pub rest : List Entry
   pub right : Rest (Plane (run .rows)) (stageOf (run .rows) (run .columns) grid) (run .threshold) rest
   pub answered : answer ≡ handedAnswer (endCheck run (length grid) work) room (length rest)

@@ -1,103 +1,140 @@
+-- `check_column`: the answer at each return, by the tests so far (`Checks`). Rows are at most 1,024 where columns and rows
+-- are multiplied, so the product fits. Assumes nothing.
 use Rattle.run.proofs.Checks as Checks
 use borrow.Author.Needs.{needs}
 use Rattle.run.proofs.check_column.Statement.{statement}
 use Rattle.run.proofs.check_column.Tie as tie
-use Rattle.run.proofs.check_column.Reads as reads
-use Rattle.run.proofs.check_column.Lts as lts
-use Rattle.words.proofs.index.Reads as index-reads
 
--- src/lib.rt:69:9
 returns : tie.Need-returns
-returns c = let s = c .before .args in Checks.column-rows (s .run) (s .offered) (s .grid) (s .work) (Checks.rows-none (c .if1 .taken))
+returns c =
+    Checks.column-rows (c .before .args .run) (c .before .args .offered) (c .before .args .grid)
+    (c .before .args .work) (Checks.rows-none (c .if1 .taken))
 
--- src/lib.rt:72:9
 returns-2 : tie.Need-returns-2
-returns-2 c = let s = c .before .before .args in Checks.column-rows (s .run) (s .offered) (s .grid) (s .work) (Checks.rows-many (c .before .if1 .left) (c .if2 .taken))
+returns-2 c =
+    Checks.column-rows (c .before .before .args .run) (c .before .before .args .offered)
+    (c .before .before .args .grid) (c .before .before .args .work)
+    (Checks.rows-many (c .before .if1 .left) (c .if2 .taken))
 
--- src/lib.rt:74:9
-index-requires : tie.Need-index-requires
-index-requires c κs = search needs
-
--- src/lib.rt:75:17
-index-requires-2 : tie.Need-index-requires-2
-index-requires-2 c κs = search needs
-
--- src/lib.rt:75:17
 mul-taken : tie.Need-mul-taken
 mul-taken c =
-    record { fits = Checks.product-fits (c .before .index .ensures) (c .index2 .ensures) (c .before .before .if2 .left) (search needs) }
+    record {
+      fits =
+          Checks.product-fits (c .before .index .ensures) (c .index2 .ensures) (c .before .before .if2 .left)
+          (search needs);
+    }
 
--- src/lib.rt:77:9
 returns-3 : tie.Need-returns-3
 returns-3 c =
-    let s = c .before .before .before .before .before .args in
-    Checks.column-grid (s .run) (s .offered) (s .grid) (s .work)
-    (Checks.rows-right (c .before .before .before .before .if1 .left) (c .before .before .before .if2 .left)) (c .before .before .index .ensures) (c .before .index2 .ensures)
-    (c .if3 .taken)
+    let at-if2 = c .before .before .before in
+    let at-if1 = at-if2 .before in
+    let s = at-if1 .before in
+    let a = s .args in
+    Checks.column-grid (a .run) (a .offered) (a .grid) (a .work)
+    (Checks.rows-right (at-if1 .if1 .left) (at-if2 .if2 .left)) (c .before .before .index .ensures)
+    (c .before .index2 .ensures) (c .if3 .taken)
 
--- src/lib.rt:80:9
 returns-4 : tie.Need-returns-4
 returns-4 c =
-    let s = c .before .before .before .before .before .before .args in
-    Checks.column-limit (s .run) (s .offered) (s .grid) (s .work)
-    (Checks.rows-right (c .before .before .before .before .before .if1 .left) (c .before .before .before .before .if2 .left)) (c .before .before .before .index .ensures) (c .before .before .index2 .ensures)
-    (c .before .if3 .left) (c .if4 .taken)
+    let at-index = c .before .before .before in
+    let at-if2 = at-index .before in
+    let at-if1 = at-if2 .before in
+    let s = at-if1 .before in
+    let a = s .args in
+    Checks.column-limit (a .run) (a .offered) (a .grid) (a .work)
+    (Checks.rows-right (at-if1 .if1 .left) (at-if2 .if2 .left)) (at-index .index .ensures)
+    (c .before .before .index2 .ensures) (c .before .if3 .left) (c .if4 .taken)
 
--- src/lib.rt:83:9
 returns-5 : tie.Need-returns-5
 returns-5 c =
-    let s = c .before .before .before .before .before .before .before .args in
-    Checks.column-ended (s .run) (s .offered) (s .grid) (s .work)
-    (Checks.rows-right (c .before .before .before .before .before .before .if1 .left) (c .before .before .before .before .before .if2 .left)) (c .before .before .before .before .index .ensures) (c .before .before .before .index2 .ensures)
-    (c .before .before .if3 .left) (c .before .if4 .left) (c .if5 .taken)
+    let at-index2 = c .before .before .before in
+    let at-index = at-index2 .before in
+    let at-if2 = at-index .before in
+    let at-if1 = at-if2 .before in
+    let s = at-if1 .before in
+    let a = s .args in
+    Checks.column-ended (a .run) (a .offered) (a .grid) (a .work)
+    (Checks.rows-right (at-if1 .if1 .left) (at-if2 .if2 .left)) (at-index .index .ensures)
+    (at-index2 .index2 .ensures) (c .before .before .if3 .left) (c .before .if4 .left) (c .if5 .taken)
 
--- src/lib.rt:86:9
 returns-6 : tie.Need-returns-6
 returns-6 c =
-    let s = c .before .before .before .before .before .before .before .before .args in
-    Checks.column-length (s .run) (s .offered) (s .grid) (s .work)
-    (Checks.rows-right (c .before .before .before .before .before .before .before .if1 .left) (c .before .before .before .before .before .before .if2 .left)) (c .before .before .before .before .before .index .ensures) (c .before .before .before .before .index2 .ensures)
-    (c .before .before .before .if3 .left) (c .before .before .if4 .left) (c .before .if5 .left) (c .if6 .taken)
+    let at-if3 = c .before .before .before in
+    let at-index2 = at-if3 .before in
+    let at-index = at-index2 .before in
+    let at-if2 = at-index .before in
+    let at-if1 = at-if2 .before in
+    let s = at-if1 .before in
+    let a = s .args in
+    Checks.column-length (a .run) (a .offered) (a .grid) (a .work)
+    (Checks.rows-right (at-if1 .if1 .left) (at-if2 .if2 .left)) (at-index .index .ensures)
+    (at-index2 .index2 .ensures) (at-if3 .if3 .left) (c .before .before .if4 .left) (c .before .if5 .left)
+    (c .if6 .taken)
 
--- src/lib.rt:88:13
-add-n : tie.Need-add-n
-add-n c = search needs
-
--- src/lib.rt:90:9
 returns-7 : tie.Need-returns-7
 returns-7 c =
-    let s = c .before .before .before .before .before .before .before .before .before .args in
-    Checks.column-cells (s .run) (s .offered) (s .grid) (s .work)
-    (Checks.rows-right (c .before .before .before .before .before .before .before .before .if1 .left) (c .before .before .before .before .before .before .before .if2 .left)) (c .before .before .before .before .before .before .index .ensures) (c .before .before .before .before .before .index2 .ensures)
-    (c .before .before .before .before .if3 .left) (c .before .before .before .if4 .left) (c .before .before .if5 .left) (c .before .if6 .left) (c .if7 .taken)
+    let at-if4 = c .before .before .before in
+    let at-if3 = at-if4 .before in
+    let at-index2 = at-if3 .before in
+    let at-index = at-index2 .before in
+    let at-if2 = at-index .before in
+    let at-if1 = at-if2 .before in
+    let s = at-if1 .before in
+    let a = s .args in
+    Checks.column-cells (a .run) (a .offered) (a .grid) (a .work)
+    (Checks.rows-right (at-if1 .if1 .left) (at-if2 .if2 .left)) (at-index .index .ensures)
+    (at-index2 .index2 .ensures) (at-if3 .if3 .left) (at-if4 .if4 .left) (c .before .before .if5 .left)
+    (c .before .if6 .left) (c .if7 .taken)
 
--- src/lib.rt:93:9
 returns-8 : tie.Need-returns-8
 returns-8 c =
-    let s = c .before .before .before .before .before .before .before .before .before .before .args in
-    Checks.column-full (s .run) (s .offered) (s .grid) (s .work)
-    (Checks.rows-right (c .before .before .before .before .before .before .before .before .before .if1 .left) (c .before .before .before .before .before .before .before .before .if2 .left)) (c .before .before .before .before .before .before .before .index .ensures) (c .before .before .before .before .before .before .index2 .ensures)
-    (c .before .before .before .before .before .if3 .left) (c .before .before .before .before .if4 .left) (c .before .before .before .if5 .left) (c .before .before .if6 .left) (c .before .if7 .left) (c .if8 .taken)
+    let at-if5 = c .before .before .before in
+    let at-if4 = at-if5 .before in
+    let at-if3 = at-if4 .before in
+    let at-index2 = at-if3 .before in
+    let at-index = at-index2 .before in
+    let at-if2 = at-index .before in
+    let at-if1 = at-if2 .before in
+    let s = at-if1 .before in
+    let a = s .args in
+    Checks.column-full (a .run) (a .offered) (a .grid) (a .work)
+    (Checks.rows-right (at-if1 .if1 .left) (at-if2 .if2 .left)) (at-index .index .ensures)
+    (at-index2 .index2 .ensures) (at-if3 .if3 .left) (at-if4 .if4 .left) (at-if5 .if5 .left)
+    (c .before .before .if6 .left) (c .before .if7 .left) (c .if8 .taken)
 
--- src/lib.rt:95:15
-mul-if9 : tie.Need-mul-if9
-mul-if9 c = search needs
-
--- src/lib.rt:96:9
 returns-9 : tie.Need-returns-9
 returns-9 c =
-    let s = c .before .before .before .before .before .before .before .before .before .before .before .args in
-    Checks.column-work (s .run) (s .offered) (s .grid) (s .work)
-    (Checks.rows-right (c .before .before .before .before .before .before .before .before .before .before .if1 .left) (c .before .before .before .before .before .before .before .before .before .if2 .left)) (c .before .before .before .before .before .before .before .before .index .ensures) (c .before .before .before .before .before .before .before .index2 .ensures)
-    (c .before .before .before .before .before .before .if3 .left) (c .before .before .before .before .before .if4 .left) (c .before .before .before .before .if5 .left) (c .before .before .before .if6 .left) (c .before .before .if7 .left) (c .before .if8 .left) (c .if9 .taken)
+    let at-if6 = c .before .before .before in
+    let at-if5 = at-if6 .before in
+    let at-if4 = at-if5 .before in
+    let at-if3 = at-if4 .before in
+    let at-index2 = at-if3 .before in
+    let at-index = at-index2 .before in
+    let at-if2 = at-index .before in
+    let at-if1 = at-if2 .before in
+    let s = at-if1 .before in
+    let a = s .args in
+    Checks.column-work (a .run) (a .offered) (a .grid) (a .work)
+    (Checks.rows-right (at-if1 .if1 .left) (at-if2 .if2 .left)) (at-index .index .ensures)
+    (at-index2 .index2 .ensures) (at-if3 .if3 .left) (at-if4 .if4 .left) (at-if5 .if5 .left) (at-if6 .if6 .left)
+    (c .before .before .if7 .left) (c .before .if8 .left) (c .if9 .taken)
 
--- src/lib.rt:62:1
 returns-10 : tie.Need-returns-10
 returns-10 c =
-    let s = c .before .before .before .before .before .before .before .before .before .before .before .args in
-    Checks.column-fine (s .run) (s .offered) (s .grid) (s .work)
-    (Checks.rows-right (c .before .before .before .before .before .before .before .before .before .before .if1 .left) (c .before .before .before .before .before .before .before .before .before .if2 .left)) (c .before .before .before .before .before .before .before .before .index .ensures) (c .before .before .before .before .before .before .before .index2 .ensures)
-    (c .before .before .before .before .before .before .if3 .left) (c .before .before .before .before .before .if4 .left) (c .before .before .before .before .if5 .left) (c .before .before .before .if6 .left) (c .before .before .if7 .left) (c .before .if8 .left) (c .if9 .left)
+    let at-if6 = c .before .before .before in
+    let at-if5 = at-if6 .before in
+    let at-if4 = at-if5 .before in
+    let at-if3 = at-if4 .before in
+    let at-index2 = at-if3 .before in
+    let at-index = at-index2 .before in
+    let at-if2 = at-index .before in
+    let at-if1 = at-if2 .before in
+    let s = at-if1 .before in
+    let a = s .args in
+    Checks.column-fine (a .run) (a .offered) (a .grid) (a .work)
+    (Checks.rows-right (at-if1 .if1 .left) (at-if2 .if2 .left)) (at-index .index .ensures)
+    (at-index2 .index2 .ensures) (at-if3 .if3 .left) (at-if4 .if4 .left) (at-if5 .if5 .left) (at-if6 .if6 .left)
+    (c .before .before .if7 .left) (c .before .if8 .left) (c .if9 .left)
 
 pub check-column-spec : {M : Type 1} → statement M
 check-column-spec =
@@ -105,16 +142,16 @@ check-column-spec =
     (tie.spec
     returns
     returns-2
-    index-requires
-    index-requires-2
+    (λ c κs. search needs)
+    (λ c κs. search needs)
     mul-taken
     returns-3
     returns-4
     returns-5
     returns-6
-    add-n
+    (λ c. search needs)
     returns-7
     returns-8
-    mul-if9
+    (λ c. search needs)
     returns-9
     returns-10)

@@ -1,3 +1,5 @@
+-- `column_good`: the column is copied behind the taken cells, and their levels loaded and surveyed; `Columns` puts the
+-- calls' promises together, with and without room for the batch. Assumes nothing.
 use mathlib.Core.Path.{refl}
 use mathlib.Core.List.{[]}
 use native.Mathlib.Omega.{arith}
@@ -15,98 +17,108 @@ use Rattle.run.proofs.Columns.{
 use borrow.Author.Needs.{needs}
 use Rattle.run.proofs.column_good.Statement.{statement}
 use Rattle.run.proofs.column_good.Tie as tie
-use Rattle.run.proofs.column_good.Reads as reads
-use Rattle.run.proofs.column_good.Lts as lts
-use Rattle.run.proofs.copy.Reads as copy-reads
-use Rattle.survey.proofs.closing.Reads as closing-reads
-use Rattle.survey.proofs.load.Reads as load-reads
-use Rattle.words.proofs.index.Reads as index-reads
 
--- src/lib.rt:152:9
-index-requires : tie.Need-index-requires
-index-requires c κs = search needs
-
--- src/lib.rt:153:17
-index-requires-2 : tie.Need-index-requires-2
-index-requires-2 c κs = search needs
-
--- src/lib.rt:153:17
 mul-taken : tie.Need-mul-taken
-mul-taken c = let l = column-sum (c .before .before .before .args .run) (now (c .before .before .before .args .column)) (now (c .before .before .before .args .grid)) (length (now (c .before .before .before .args .work))) (c .before .before .before .args .room) [] (c .before .before .before .pre) (c .before .index .ensures) (c .index2 .ensures) in record { fits = omega arith }
+mul-taken c =
+    let s = c .before .before .before in
+    let a = s .args in
+    let l =
+    column-sum (a .run) (now (a .column)) (now (a .grid)) (length (now (a .work))) (a .room) [] (s .pre)
+    (c .before .index .ensures) (c .index2 .ensures) in
+    record { fits = omega arith }
 
--- src/lib.rt:154:13
 add-n : tie.Need-add-n
-add-n c = let l = column-sum (c .before .before .before .args .run) (now (c .before .before .before .args .column)) (now (c .before .before .before .args .grid)) (length (now (c .before .before .before .args .work))) (c .before .before .before .args .room) [] (c .before .before .before .pre) (c .before .index .ensures) (c .index2 .ensures) in record { fits = omega arith }
+add-n c =
+    let s = c .before .before .before in
+    let a = s .args in
+    let l =
+    column-sum (a .run) (now (a .column)) (now (a .grid)) (length (now (a .work))) (a .room) [] (s .pre)
+    (c .before .index .ensures) (c .index2 .ensures) in
+    record { fits = omega arith }
 
--- src/lib.rt:155:5
 copy-requires : tie.Need-copy-requires
-copy-requires c κs = column-copying (c .before .before .before .before .args .run) (now (c .before .before .before .before .args .column)) (now (c .before .before .before .before .args .grid)) (length (now (c .before .before .before .before .args .work))) (c .before .before .before .before .args .room) [] (c .before .before .before .before .pre) (c .before .before .index .ensures) (c .before .index2 .ensures)
+copy-requires c κs =
+    let s = c .before .before .before .before in
+    let a = s .args in
+    column-copying (a .run) (now (a .column)) (now (a .grid)) (length (now (a .work))) (a .room) [] (s .pre)
+    (c .before .before .index .ensures) (c .before .index2 .ensures)
 
--- src/lib.rt:156:5
 load-requires : tie.Need-load-requires
 load-requires c κs =
-    column-loading (c .before .before .before .before .before .before .before .before .args .run) (now (c .before .before .before .before .before .before .before .before .args .column)) (now (c .before .before .before .before .before .before .before .before .args .grid)) (length (now (c .before .before .before .before .before .before .before .before .args .work))) (c .before .before .before .before .before .before .before .before .args .room) [] (c .before .before .before .before .before .before .before .before .pre) (c .before .before .before .before .before .before .index .ensures) (c .before .before .before .before .before .index2 .ensures) (c .before .before .before .copy .ensures) refl
+    let at-copy = c .before .before .before in
+    let at-index2 = at-copy .before .before in
+    let at-index = at-index2 .before in
+    let s = at-index .before .before in
+    let a = s .args in
+    column-loading (a .run) (now (a .column)) (now (a .grid)) (length (now (a .work))) (a .room) [] (s .pre)
+    (at-index .index .ensures) (at-index2 .index2 .ensures) (at-copy .copy .ensures) refl
 
--- src/lib.rt:157:9
 closing-requires : tie.Need-closing-requires
 closing-requires c κs =
-    column-surveying (c .before .before .before .before .before .before .before .before .before .before .before .before .args .run) (now (c .before .before .before .before .before .before .before .before .before .before .before .before .args .column)) (now (c .before .before .before .before .before .before .before .before .before .before .before .before .args .grid)) (length (now (c .before .before .before .before .before .before .before .before .before .before .before .before .args .work))) (c .before .before .before .before .before .before .before .before .before .before .before .before .args .room) [] (c .before .before .before .before .before .before .before .before .before .before .before .before .pre) (c .before .before .before .before .before .before .before .before .before .before .index .ensures) (c .before .before .before .before .before .before .before .before .before .index2 .ensures) refl (c .before .before .before .load .ensures)
+    let at-load = c .before .before .before in
+    let at-index2 = at-load .before .before .before .before .before .before in
+    let at-index = at-index2 .before in
+    let s = at-index .before .before in
+    let a = s .args in
+    column-surveying (a .run) (now (a .column)) (now (a .grid)) (length (now (a .work))) (a .room) [] (s .pre)
+    (at-index .index .ensures) (at-index2 .index2 .ensures) refl (at-load .load .ensures)
 
--- src/lib.rt:162:25
-cast-t25 : tie.Need-cast-t25
-cast-t25 c = search needs
-
--- src/lib.rt:159:9
-same-length : tie.Need-same-length
-same-length c = search needs
-
--- src/lib.rt:159:9
-same-length-2 : tie.Need-same-length-2
-same-length-2 c = search needs
-
--- src/lib.rt:159:9
 returns : tie.Need-returns
 returns c =
-    code-short (c .before .before .before .before .before .before .before .before .before .before .before .before .before .before .before .before .args .run) (now (c .before .before .before .before .before .before .before .before .before .before .before .before .before .before .before .before .args .column)) (now (c .before .before .before .before .before .before .before .before .before .before .before .before .before .before .before .before .args .grid)) (length (now (c .before .before .before .before .before .before .before .before .before .before .before .before .before .before .before .before .args .work))) (c .before .before .before .before .before .before .before .before .before .before .before .before .before .before .before .before .args .room) _ (c .before .before .before .before .before .before .before .before .before .before .before .before .before .before .before .before .pre) (c .before .before .before .before .before .before .before .before .before .before .before .before .before .before .index .ensures) (c .before .before .before .before .before .before .before .before .before .before .before .before .before .index2 .ensures) (c .before .before .before .before .before .before .before .before .before .before .before .copy .ensures) (c .before .before .before .before .before .before .before .load .ensures) (c .before .before .before .closing .ensures) (c .if1 .taken)
+    let at-closing = c .before .before .before in
+    let at-load = at-closing .before .before .before .before in
+    let at-copy = at-load .before .before .before .before in
+    let at-index2 = at-copy .before .before in
+    let at-index = at-index2 .before in
+    let s = at-index .before .before in
+    let a = s .args in
+    code-short (a .run) (now (a .column)) (now (a .grid)) (length (now (a .work))) (a .room) _ (s .pre)
+    (at-index .index .ensures) (at-index2 .index2 .ensures) (at-copy .copy .ensures) (at-load .load .ensures)
+    (at-closing .closing .ensures) (c .if1 .taken)
 
--- src/lib.rt:169:22
 add-t28 : tie.Need-add-t28
-add-t28 c = record { fits = columns-fit (c .before .before .before .before .before .before .before .before .before .before .before .before .before .before .before .before .args .run) (now (c .before .before .before .before .before .before .before .before .before .before .before .before .before .before .before .before .args .column)) (now (c .before .before .before .before .before .before .before .before .before .before .before .before .before .before .before .before .args .grid)) (length (now (c .before .before .before .before .before .before .before .before .before .before .before .before .before .before .before .before .args .work))) (c .before .before .before .before .before .before .before .before .before .before .before .before .before .before .before .before .args .room) [] (c .before .before .before .before .before .before .before .before .before .before .before .before .before .before .before .before .pre) (c .before .before .before .before .before .before .before .before .before .before .before .before .before .before .index .ensures) (c .before .before .before .before .before .before .before .before .before .before .before .before .before .index2 .ensures) }
+add-t28 c =
+    let at-index2 = c .before .before .before .before .before .before .before .before .before .before .before .before
+    .before in
+    let at-index = at-index2 .before in
+    let s = at-index .before .before in
+    let a = s .args in
+    record {
+      fits =
+          columns-fit (a .run) (now (a .column)) (now (a .grid)) (length (now (a .work))) (a .room) [] (s .pre)
+          (at-index .index .ensures) (at-index2 .index2 .ensures);
+    }
 
--- src/lib.rt:173:31
-cast-t30 : tie.Need-cast-t30
-cast-t30 c = search needs
-
--- src/lib.rt:143:1
-same-length-3 : tie.Need-same-length-3
-same-length-3 c = search needs
-
--- src/lib.rt:143:1
-same-length-4 : tie.Need-same-length-4
-same-length-4 c = search needs
-
--- src/lib.rt:143:1
 returns-2 : tie.Need-returns-2
 returns-2 c =
-    code-count (c .before .before .before .before .before .before .before .before .before .before .before .before .before .before .before .before .args .run) (now (c .before .before .before .before .before .before .before .before .before .before .before .before .before .before .before .before .args .column)) (now (c .before .before .before .before .before .before .before .before .before .before .before .before .before .before .before .before .args .grid)) (length (now (c .before .before .before .before .before .before .before .before .before .before .before .before .before .before .before .before .args .work))) (c .before .before .before .before .before .before .before .before .before .before .before .before .before .before .before .before .args .room) _ (c .before .before .before .before .before .before .before .before .before .before .before .before .before .before .before .before .pre) (c .before .before .before .before .before .before .before .before .before .before .before .before .before .before .index .ensures) (c .before .before .before .before .before .before .before .before .before .before .before .before .before .index2 .ensures) (c .before .before .before .before .before .before .before .before .before .before .before .copy .ensures) (c .before .before .before .before .before .before .before .load .ensures) (c .before .before .before .closing .ensures) (c .if1 .left)
+    let at-closing = c .before .before .before in
+    let at-load = at-closing .before .before .before .before in
+    let at-copy = at-load .before .before .before .before in
+    let at-index2 = at-copy .before .before in
+    let at-index = at-index2 .before in
+    let s = at-index .before .before in
+    let a = s .args in
+    code-count (a .run) (now (a .column)) (now (a .grid)) (length (now (a .work))) (a .room) _ (s .pre)
+    (at-index .index .ensures) (at-index2 .index2 .ensures) (at-copy .copy .ensures) (at-load .load .ensures)
+    (at-closing .closing .ensures) (c .if1 .left)
 
 pub column-good-spec : {M : Type 1} → statement M
 column-good-spec =
     tie.close
     (tie.spec
-    index-requires
-    index-requires-2
+    (λ c κs. search needs)
+    (λ c κs. search needs)
     mul-taken
     add-n
     copy-requires
     load-requires
     closing-requires
-    cast-t25
-    same-length
-    same-length-2
+    (λ c. search needs)
+    (λ c. search needs)
+    (λ c. search needs)
     returns
     add-t28
-    cast-t30
-    same-length-3
-    same-length-4
+    (λ c. search needs)
+    (λ c. search needs)
+    (λ c. search needs)
     returns-2)

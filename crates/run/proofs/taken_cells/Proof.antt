@@ -7,22 +7,12 @@ use Rattle.run.proofs.Checks.{product-wide}
 use Rattle.run.proofs.taken_cells.Statement.{statement}
 use Rattle.run.proofs.taken_cells.Tie as tie
 
--- src/lib.rt:263:5
-index-requires : tie.Need-index-requires
-index-requires c κs = search needs
-
--- src/lib.rt:263:33
-index-requires-2 : tie.Need-index-requires-2
-index-requires-2 c κs = search needs
-
--- src/lib.rt:263:5
 mul-result : tie.Need-mul-result
 mul-result c =
     record { fits = product-wide (c .before .index .ensures) (c .index2 .ensures) (search needs) (search needs) }
 
--- src/lib.rt:260:1
 returns : tie.Need-returns
 returns c = ap₂ (λ (x y : ℕ). x * y) (c .before .index .ensures) (c .index2 .ensures)
 
 pub taken-cells-spec : {M : Type 1} → statement M
-taken-cells-spec = tie.close (tie.spec index-requires index-requires-2 mul-result returns)
+taken-cells-spec = tie.close (tie.spec (λ c κs. search needs) (λ c κs. search needs) mul-result returns)
