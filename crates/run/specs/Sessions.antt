@@ -9,8 +9,7 @@ use Prim.Native.Nat.{ℕ, suc, _<_}
 use lib.IntN.{ℤ}
 use lib.ListN.{length, take, getD}
 use Rattle.relief.specs.Heights.{levels}
-use Rattle.relief.specs.Peaks.{Entry}
-use Rattle.relief.specs.Lists.{Member, ListOf}
+use Rattle.relief.specs.Peaks.{Entry, Member, ListOf}
 use Rattle.relief.specs.Runs.{Batch}
 use Rattle.relief.specs.Plane.{Plane, stageOf}
 use Rattle.record.specs.declared.Peak.{Peak}
