@@ -13,8 +13,7 @@ use lib.IntN.{ℤ}
 use lib.ListN.{length, drop}
 use borrow.Author.Tests.{eq-eqb, ne-eqb, lt-ltb, le-ltb}
 use Rattle.relief.specs.Heights.{levels}
-use Rattle.relief.specs.Peaks.{Entry, Listed}
-use Rattle.relief.specs.Lists.{ListOf}
+use Rattle.relief.specs.Peaks.{Entry, Listed, ListOf}
 use Rattle.relief.specs.Plane.{Plane}
 use Rattle.relief.proofs.Deciding.{split, le-or-lt}
 use Rattle.relief.proofs.Listing.{order-unique}

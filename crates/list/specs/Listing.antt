@@ -12,8 +12,7 @@ use lib.Dec.{eqb, ltb}
 use lib.IntN.{ℤ}
 use lib.ListN.{length, drop}
 use Rattle.relief.specs.Heights.{levels}
-use Rattle.relief.specs.Peaks.{Entry}
-use Rattle.relief.specs.Lists.{ListOf}
+use Rattle.relief.specs.Peaks.{Entry, ListOf}
 use Rattle.relief.specs.Plane.{Plane}
 use Rattle.relief.proofs.Deciding.{either}
 use Rattle.record.specs.declared.Peak.{Peak}

@@ -1,7 +1,7 @@
 -- The marked grids follow from the definitions: the survey, run on each of them, gives what the table says.
 --     plane-terrain      a grid of heights, with plane touching, is a terrain
 --     agrees x           the survey of an example gives what the table says, by a test
---     follows            and then the example is as the definitions say
+--     follow             and then each example is as the definitions say
 --     marked-follow      the whole table, by one computation
 -- Assumes nothing.
 use mathlib.Core.Path.{_≡_, refl, ap, subst}
@@ -14,11 +14,10 @@ use lib.IntN.{ℤ}
 use lib.ListN.{length, take, length-take, List·getD-eq-default}
 use borrow.Author.Tests.{eqb-true}
 use Rattle.relief.specs.Heights.{BLANK, levelOf, levels}
-use Rattle.relief.specs.Peaks.{Key, missing, key, Entry}
-use Rattle.relief.specs.Lists.{ListOf}
+use Rattle.relief.specs.Peaks.{Key, missing, key, Entry, ListOf}
 use Rattle.relief.specs.Runs.{Batch, Rest}
 use Rattle.relief.specs.Plane.{Plane, stageOf}
-use Rattle.relief.specs.Grids.{Example, grid, run, HandedOut, Follows, Each, marked}
+use Rattle.relief.specs.Grids.{Example, grid, run, HandedOut, Follow, marked}
 use Rattle.relief.proofs.Deciding.{true-not-false, both}
 use Rattle.relief.proofs.Peaking.{Terrain}
 use Rattle.relief.proofs.Surveying.{peak?, better?, joined?, keyLevel, entryAt, listed?, survey, survey-list}
@@ -121,18 +120,21 @@ follows-from rows T heights j (batch ∷ batches) rest e =
       follows-from rows T heights (suc j) batches rest i,
     )
 
-follows : (x : Example) → agrees x ≡ true → Follows x
-follows (grid rows T heights list) e =
-    subst (ListOf (Plane rows) (levels heights) T) (same-equal _ list e) (survey-list (plane-terrain rows heights) T)
-follows (run rows T heights batches rest) e = follows-from rows T heights 0 batches rest e
+follow : (xs : List Example) → all xs ≡ true → Follow xs
+follow [] e = tt
+follow (grid rows T heights list ∷ xs) e =
+    let (h, i) = both-holds (agrees (grid rows T heights list)) (all xs) e in (
+      subst (ListOf (Plane rows) (levels heights) T) (same-equal _ list h)
+          (survey-list (plane-terrain rows heights) T),
+      follow xs i,
+    )
+follow (run rows T heights batches rest ∷ xs) e =
+    let (h, i) = both-holds (agreesFrom rows T heights 0 batches rest) (all xs) e in
+    (follows-from rows T heights 0 batches rest h, follow xs i)
 
-each-follows : (xs : List Example) → all xs ≡ true → Each Follows xs
-each-follows [] e = tt
-each-follows (x ∷ xs) e = let (h, i) = both-holds (agrees x) (all xs) e in (follows x h, each-follows xs i)
-
-pub marked-follow : Each Follows marked
+pub marked-follow : Follow marked
 unfolding marked levels levelOf peak? better? joined? keyLevel entryAt closed? listed? survey surveyRest surveyBatch
-marked-follow = each-follows marked agree
+marked-follow = follow marked agree
   where
     agree : all marked ≡ true
     agree = refl

@@ -12,9 +12,9 @@ use mathlib.Core.List.{List}
 use mathlib.Core.Logic.{_⊎_, inl, inr}
 use Prim.Native.Nat.{ℕ, zero, suc, _≤_, _<_}
 use native.Mathlib.Omega.{arith}
-use Rattle.relief.specs.Peaks.{Entry, Listed}
-use Rattle.relief.specs.Lists.{Member, ListOf}
-use Rattle.relief.specs.Runs.{Stage, Closed, Batch, Rest, Growing}
+use Rattle.relief.specs.Peaks.{Entry, Listed, Member, ListOf}
+use Rattle.relief.specs.Runs.{Stage, Closed, Batch, Rest}
+use Rattle.relief.specs.Claims.{Growing}
 use Rattle.relief.proofs.Deciding.{split, Decides, below-suc}
 use Rattle.relief.proofs.Peaking.{land-below}
 use Rattle.relief.proofs.Listing.{entry-unique}
@@ -25,10 +25,10 @@ module _ {touch : ℕ → ℕ → Type 0} {touch? : ℕ → ℕ → Bool} {stage
     (symmetric : (a b : ℕ) → touch a b → touch b a) (decides : (a b : ℕ) → Decides (touch a b) (touch? a b))
     (run : Growing touch stage) where
   staged : (j : ℕ) → Staged touch touch? (stage j)
-  staged j = record { symmetric = symmetric; decides = decides; ends = run .ends j }
+  staged j = record { symmetric = symmetric; decides = decides; ends = run .further j .ends }
 
   closed-next : (j : ℕ) (e : Entry) → Closed touch (stage j) e → Closed touch (stage (suc j)) e
-  closed-next j e h = closed-stays (staged j) (staged (suc j)) (run .fence j) (run .further j) e h
+  closed-next j e h = closed-stays (staged j) (staged (suc j)) (run .further j) e h
 
   pub closed-later : (i j : ℕ) (e : Entry) → i ≤ j → Closed touch (stage i) e → Closed touch (stage j) e
   closed-later i zero e l h = subst (λ (k : ℕ). Closed touch (stage k) e) (omega arith) h

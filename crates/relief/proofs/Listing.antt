@@ -11,8 +11,8 @@ use mathlib.Core.List.{List, [], _∷_}
 use mathlib.Core.Logic.{_⊎_, inl, inr}
 use Prim.Native.Nat.{ℕ, zero, suc, _+_, _≤_, _<_, zero-le}
 use native.Mathlib.Omega.{arith}
-use Rattle.relief.specs.Peaks.{Key, missing, key, Entry, floorOf, KeyOf, PeakEntry, PassCell}
-use Rattle.relief.specs.Lists.{Member, Rising, InReadingOrder}
+use Rattle.relief.specs.Peaks.{Key, missing, key, Entry, floorOf, KeyOf, PeakEntry, PassCell, Member, Rising}
+use Rattle.relief.specs.Peaks.{InReadingOrder}
 use Rattle.relief.proofs.Deciding.{split, Decides, below-suc}
 use Rattle.relief.proofs.Peaking.{Terrain}
 use Rattle.relief.proofs.Keys.{

@@ -19,8 +19,9 @@ use lib.ListN.{length, take, getD, replicate, getD-replicate, List·getD-append}
 use lib.Seq.{getD-take, getD-append-add}
 use Rattle.relief.specs.Heights.{BLANK, levelOf, heightOf, levels}
 use Rattle.relief.specs.Peaks.{Island, Entry, floorOf}
-use Rattle.relief.specs.Runs.{Further, Open, KeyKept, Growing}
+use Rattle.relief.specs.Runs.{Open}
 use Rattle.relief.specs.Plane.{rowOf, columnOf, Plane, stageOf}
+use Rattle.relief.specs.Claims.{Further, Growing, KeyKept}
 use Rattle.relief.proofs.Deciding.{split, decide, le-or-lt, le-decides, both-decides, any-decides}
 use Rattle.relief.proofs.Ways.{way-end}
 use Rattle.relief.proofs.Peaking.{land-below}
@@ -37,14 +38,15 @@ levels-take heights n c l = ap levelOf (getD-take n heights c BLANK l)
 pub plane-growing : (rows : ℕ) (heights : List ℤ) → Growing (Plane rows) (λ j. stageOf rows j heights)
 plane-growing rows heights = record {
   start = zero-mul rows;
-  ends = λ j c l. plane-staged rows j heights .ends c l;
   further = λ j.
       let e = suc-mul j rows in
       record {
         kept = λ c l. levels-take heights (suc j * rows) c (omega arith) ∙ sym (levels-take heights (j * rows) c l);
         newer = omega arith;
+        fence = plane-fence rows j;
+        ends = plane-staged rows j heights .ends;
+        ends-after = plane-staged rows (suc j) heights .ends;
       };
-  fence = λ j a d. plane-fence rows j a d;
 }
 
 plane-next : (rows c : ℕ) → 0 < rows → Plane rows c (c + rows)
@@ -90,7 +92,7 @@ module _ (rows columns : ℕ) (heights : List ℤ) (whole : length heights ≡ c
     grown : List ℤ
     grown = heights ++ replicate rows z
 
-    grown-further : Further (stageOf rows columns heights) (stageOf rows (suc columns) grown)
+    grown-further : Further (Plane rows) (stageOf rows columns heights) (stageOf rows (suc columns) grown)
     unfolding grown levels
     grown-further =
         let m = suc-mul columns rows in
@@ -102,6 +104,9 @@ module _ (rows columns : ℕ) (heights : List ℤ) (whole : length heights ≡ c
               ∙ List·getD-append heights (replicate rows z) BLANK c l′
               ∙ sym (getD-take (columns * rows) heights c BLANK l));
           newer = omega arith;
+          fence = plane-fence rows columns;
+          ends = plane-staged rows columns heights .ends;
+          ends-after = plane-staged rows (suc columns) (heights ++ replicate rows z) .ends;
         }
 
     grown-level : (i : ℕ) → i < rows → stageOf rows (suc columns) grown .level (columns * rows + i) ≡ levelOf z
@@ -129,5 +134,4 @@ module _ (rows columns : ℕ) (heights : List ℤ) (whole : length heights ≡ c
         (grown-level (c + rows - columns * rows) (omega arith)) in
         let k = o .right .height in
         open-changes (plane-staged rows columns heights) (plane-staged rows (suc columns) grown)
-        (plane-fence rows columns)
         grown-further e (o .right) c (c + rows) w (plane-next rows c r) (omega arith) kept

@@ -9,7 +9,7 @@ use mathlib.Core.Logic.{_⊎_, inl, inr}
 use Prim.Native.Nat.{ℕ, zero, suc, _<_}
 use native.Mathlib.Nat.{not-suc-le-zero}
 use lib.Dec.{eqb}
-use Rattle.relief.specs.Paths.{Way, alone, onward}
+use Rattle.relief.specs.Peaks.{Way, alone, onward}
 use Rattle.relief.proofs.Deciding.{
   split,
   Decides,

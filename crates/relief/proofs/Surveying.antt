@@ -11,22 +11,8 @@ use mathlib.Core.Logic.{_⊎_, inl, inr}
 use Prim.Native.Nat.{ℕ, zero, suc, _-_, _≤_, _<_}
 use native.Mathlib.Omega.{arith}
 use lib.Dec.{eqb, leb, ltb}
-use Rattle.relief.specs.Paths.{Way}
-use Rattle.relief.specs.Peaks.{
-  Flat,
-  Peak,
-  Key,
-  missing,
-  key,
-  Entry,
-  Wanted,
-  KeyOf,
-  PeakEntry,
-  Listed,
-  KeyHeight,
-  NoKey,
-}
-use Rattle.relief.specs.Lists.{ListOf}
+use Rattle.relief.specs.Peaks.{Way, Flat, Peak, Key, missing, key, Entry, Wanted, KeyOf, PeakEntry, Listed}
+use Rattle.relief.specs.Peaks.{KeyHeight, NoKey, ListOf}
 use Rattle.relief.proofs.Deciding.{
   split,
   Decides,

@@ -1,18 +1,10 @@
--- The marked grids of section "Grids to check by" of document 01, as one table.
---     Example         a grid with its list at a threshold, or a run with its batches and what End hands out
---     Follows x       the example is as the definitions say
---     marked          the table
--- Assumes nothing.
-use mathlib.Core.Path.{_≡_}
-use mathlib.Core.List.{List, [], _∷_}
+-- The marked grids of section "Grids to check by" of document 01, as one table. Assumes nothing.
+use mathlib.Core.{Path._≡_, List.List, List.[], List._∷_}
 use Prim.Native.Nat.{ℕ, suc, _*_}
-use lib.IntN.{ℤ, pos, negsuc}
-use lib.ListN.{length}
+use lib.{IntN.ℤ, IntN.pos, IntN.negsuc, ListN.length}
 use Rattle.relief.specs.Heights.{BLANK, levelOf, levels}
-use Rattle.relief.specs.Peaks.{Entry, missing, key}
-use Rattle.relief.specs.Lists.{ListOf}
-use Rattle.relief.specs.Runs.{Batch, Rest}
-use Rattle.relief.specs.Plane.{Plane, stageOf}
+use Rattle.relief.specs.Peaks.{missing, key, Entry, ListOf}
+use Rattle.relief.specs.{Runs.Batch, Runs.Rest, Plane.Plane, Plane.stageOf}
 
 -- "records as cell, height, key, pass; "-" is missing"
 abbrev pub lone : ℕ → ℤ → Entry
@@ -21,6 +13,7 @@ lone cell height = record { cell = cell; level = levelOf height; key = missing }
 abbrev pub keyed : ℕ → ℤ → ℤ → ℕ → Entry
 keyed cell height k pass = record { cell = cell; level = levelOf height; key = key (levelOf k) pass }
 
+-- A grid with its list at the threshold T, or a run with its batches and what End hands out.
 pub data Example : Type 0 where
   grid : (rows T : ℕ) (heights : List ℤ) (list : List Entry) → Example
   run : (rows T : ℕ) (heights : List ℤ) (batches : List (List Entry)) (rest : List Entry) → Example
@@ -32,29 +25,24 @@ HandedOut rows T heights j (batch ∷ batches) rest =
     Batch (Plane rows) (stageOf rows j heights) (stageOf rows (suc j) heights) T batch
     × HandedOut rows T heights (suc j) batches rest
 
-abbrev pub Follows : Example → Type 0
-Follows (grid rows T heights list) = ListOf (Plane rows) (levels heights) T list
-Follows (run rows T heights batches rest) = HandedOut rows T heights 0 batches rest
-
-abbrev pub Each : (Example → Type 0) → List Example → Type 0
-Each P [] = Unit {0}
-Each P (x ∷ xs) = P x × Each P xs
+-- Each example is as the definitions say.
+abbrev pub Follow : List Example → Type 0
+Follow [] = Unit {0}
+Follow (grid rows T heights list ∷ xs) = ListOf (Plane rows) (levels heights) T list × Follow xs
+Follow (run rows T heights batches rest ∷ xs) = HandedOut rows T heights 0 batches rest × Follow xs
 
 unfoldable pub marked : List Example
 marked =
-    -- "no columns: empty list"
+    -- "no columns: empty list", "blank alone: empty list", "0: one peak 0, 0, -, -"
     grid 1 1 [] []
-    -- "blank alone: empty list"
     ∷ grid 1 1 (BLANK ∷ []) []
-    -- "0: one peak 0, 0, -, -"
     ∷ grid 1 1 (pos 0 ∷ []) (lone 0 (pos 0) ∷ [])
     -- "5 3 5: peaks 0, 5, -, - and 2, 5, 3, 1. At T = 2 both; at T = 3 only the first."
     ∷ grid 1 1 (pos 5 ∷ pos 3 ∷ pos 5 ∷ []) (lone 0 (pos 5) ∷ keyed 2 (pos 5) (pos 3) 1 ∷ [])
     ∷ grid 1 2 (pos 5 ∷ pos 3 ∷ pos 5 ∷ []) (lone 0 (pos 5) ∷ keyed 2 (pos 5) (pos 3) 1 ∷ [])
     ∷ grid 1 3 (pos 5 ∷ pos 3 ∷ pos 5 ∷ []) (lone 0 (pos 5) ∷ [])
-    -- "5 5 5: one peak at 0"
+    -- "5 5 5: one peak at 0", "5 blank 6: peaks at 0 and 2, both without key"
     ∷ grid 1 1 (pos 5 ∷ pos 5 ∷ pos 5 ∷ []) (lone 0 (pos 5) ∷ [])
-    -- "5 blank 6: peaks at 0 and 2, both without key"
     ∷ grid 1 1 (pos 5 ∷ BLANK ∷ pos 6 ∷ []) (lone 0 (pos 5) ∷ lone 2 (pos 6) ∷ [])
     -- "2147483647 -2147483647 2147483647: the second has key -2147483647, pass 1, prominence 4294967294."
     ∷ grid 1 4294967294 (pos 2147483647 ∷ negsuc 2147483646 ∷ pos 2147483647 ∷ [])

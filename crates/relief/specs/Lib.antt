@@ -1,7 +1,5 @@
 pub mod Heights
-pub mod Paths
 pub mod Peaks
-pub mod Lists
 pub mod Runs
 pub mod Plane
 pub mod Grids

@@ -1,15 +1,8 @@
--- Plane touching: section "Grid, cells and heights" of document 01.
---     rowOf rows c, columnOf rows c   the place of a cell
---     Plane rows a b                  the cells a and b touch
---     stageOf rows columns heights    a run of which so many columns are taken
--- Assumes nothing.
-use mathlib.Core.Path.{_≡_}
-use mathlib.Core.List.{List}
+-- Plane touching: section "Grid, cells and heights" of document 01. Assumes nothing.
+use mathlib.Core.{Path._≡_, List.List}
 use Prim.Native.Nat.{ℕ, suc, _-_, _*_, _/_, _%_, _≤_}
-use lib.IntN.{ℤ}
-use lib.ListN.{take}
-use Rattle.relief.specs.Heights.{levels}
-use Rattle.relief.specs.Runs.{Stage}
+use lib.{IntN.ℤ, ListN.take}
+use Rattle.relief.specs.{Heights.levels, Runs.Stage}
 
 -- "Cell number = column x rows + row."
 abbrev pub rowOf : ℕ → ℕ → ℕ
@@ -30,10 +23,6 @@ pub record Plane (rows a b : ℕ) : Type 0 where
   pub other : a ≡ b → ⊥
 
 -- "a run growing by columns": of the heights in reading order, the first columns.
--- The last column's cells are the newest.
 abbrev pub stageOf : ℕ → ℕ → List ℤ → Stage
-stageOf rows columns heights = record {
-  level = levels (take (columns * rows) heights);
-  cells = columns * rows;
-  newest = columns * rows - rows;
-}
+stageOf rows columns heights =
+    record { level = levels (take (columns * rows) heights); cells = columns * rows; newest = columns * rows - rows }

@@ -15,11 +15,10 @@ use lib.IntN.{ℤ}
 use lib.ListN.{length, take, getD, length-append, List·getD-append}
 use lib.Seq.{take-append-le, take-all, getD-append-seam}
 use Rattle.relief.specs.Heights.{levels}
-use Rattle.relief.specs.Peaks.{Entry}
-use Rattle.relief.specs.Lists.{ListOf}
+use Rattle.relief.specs.Peaks.{Entry, ListOf}
 use Rattle.relief.specs.Runs.{Stage, Batch, Rest}
 use Rattle.relief.specs.Plane.{Plane, stageOf}
-use Rattle.relief.specs.Claims.{Handing}
+use Rattle.relief.specs.Claims.{Touching}
 use Rattle.relief.proofs.Deciding.{split, test, below-suc}
 use Rattle.relief.proofs.Listing.{order-unique}
 use Rattle.relief.proofs.Claims.{claims}
@@ -178,24 +177,19 @@ calls-told (unended {run} {run′} {cells} {batches = batches} c h) =
 pub session-holds : SessionHolds
 session-holds run run′ cells grid batches work n table table′ c e h =
     let t = calls-told c in
-    let r : Handing = record {
+    let plane : Touching = record {
       touch = Plane (run .rows);
-      stage = λ j. stageOf (run .rows) j cells;
       symmetric = claims .plane-symmetric (run .rows);
       told = claims .plane-told (run .rows);
-      grows = claims .plane-grows (run .rows) cells;
-      columns = length batches;
-      threshold = run .threshold;
-      batch = λ j. getD batches j [];
-      rest = h .rest;
-      batches = t .closes;
-      ended = ended t;
     } in
+    let r = claims .handing plane (λ j. stageOf (run .rows) j cells) (length batches) (run .threshold)
+    (λ j. getD batches j []) (h .rest)
+    (record { grows = claims .plane-grows (run .rows) cells; batches = t .closes; ended = ended t }) in
     record {
       closes = t .closes;
-      hold = λ l k. claims .batches-hold r l (listed t l k);
-      once = claims .batches-once r;
-      last = claims .rest-once r;
+      hold = λ l k. r .batches-hold l (listed t l k);
+      once = r .batches-once;
+      last = r .rest-once;
     }
   where
     -- the cells of the last stage are all that were taken

@@ -1,5 +1,5 @@
 -- From Start to End: "if each call gets the run record last returned and no taken cell is changed".
---     Calls run cells batches     the calls so far gave the record `run`, took the cells `cells` and handed out `batches`
+--     Calls run cells batches     the calls so far gave the record `run`, took `cells` and handed out `batches`
 --     HoldsList                   batches and rest hold just the list of the cells, each peak once
 -- It is over the promises of the calls, and mentions no code. Assumes nothing.
 use mathlib.Core.Path.{_≡_}
@@ -9,8 +9,7 @@ use Prim.Native.Nat.{ℕ, suc, _<_}
 use lib.IntN.{ℤ}
 use lib.ListN.{length, take, getD}
 use Rattle.relief.specs.Heights.{levels}
-use Rattle.relief.specs.Peaks.{Entry}
-use Rattle.relief.specs.Lists.{Member, ListOf}
+use Rattle.relief.specs.Peaks.{Entry, Member, ListOf}
 use Rattle.relief.specs.Runs.{Batch}
 use Rattle.relief.specs.Plane.{Plane, stageOf}
 use Rattle.record.specs.declared.Peak.{Peak}

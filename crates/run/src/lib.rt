@@ -130,7 +130,8 @@ fn check_end(run: Run, grid: usize, work: usize) -> Checked
 // Copies a column behind the taken cells.
 fn copy(grid: &mut [i32], at: usize, column: &[i32])
     requires { ⌜ at + length (now column) ≤ length (now grid) ⌝ }
-    ensures { λ r. ⌜ now (grid .exit) ≡ paste (now (grid .entry)) at (now (column .entry)) (length (now (column .entry))) ⌝ }
+    ensures { λ r. ⌜ now (grid .exit)
+        ≡ paste (now (grid .entry)) at (now (column .entry)) (length (now (column .entry))) ⌝ }
 {
     let mut i = 0;
     while i < column.len() {

@@ -11,7 +11,7 @@ use native.Mathlib.Omega.{arith}
 use lib.Dec.{eqb, leb}
 use borrow.Author.Tests.{eq-eqb, ne-eqb, lt-ltb, le-ltb, le-leb}
 use Rattle.relief.specs.Peaks.{Key, missing, key, Entry, floorOf, Peak, PeakEntry, Listed, Wanted, KeyOf}
-use Rattle.relief.specs.Lists.{InReadingOrder}
+use Rattle.relief.specs.Peaks.{InReadingOrder}
 use Rattle.relief.specs.Runs as Runs
 use Rattle.relief.specs.Runs.{Stage, Closed, Remaining}
 use Rattle.relief.proofs.Deciding.{

@@ -1,5 +1,5 @@
--- `check_column`: the answer at each return, by the tests so far (`Checks`). Rows are at most 1,024 where columns and rows
--- are multiplied, so the product fits. Assumes nothing.
+-- `check_column`: the answer at each return, by the tests so far (`Checks`). Rows are at most 1,024 where they are
+-- multiplied with columns, so the product fits. Assumes nothing.
 use Rattle.run.proofs.Checks as Checks
 use borrow.Author.Needs.{needs}
 use Rattle.run.proofs.check_column.Statement.{statement}
