@@ -1,6 +1,6 @@
 # make test runs everything that can fail, the proofs last; its last line is 'N passed, 0 failed'.
 # make run proves and builds the program that lists a run file, and shows what it prints of the paper's three-row grid.
-# make bench compares the library with a plain C++ lister.
+# make bench compares the library with plain C++: the list, the run file, and a column call with a list.
 .PHONY: test run bench layout pages tools peaks
 
 test:

@@ -4,8 +4,8 @@
 #     cpp-header        the header compiles as C99 and as C++17, by itself
 #     cpp-example       builds and runs the example, and compares what it prints
 #     cpp-suite         builds and runs the hard test of the C entry
-#     cpp-small         library and reference agree on small grids
-#     cpp-bench         times the library against the reference; under an emulator it is cpp-instructions
+#     cpp-small         library and plain C++ agree on small grids, runs and files
+#     cpp-bench         times the library against plain C++; under an emulator it is cpp-instructions
 #     cpp-instructions  instructions per cell of library and reference, counted by the emulator
 #     cpp-tools         installs what cpp-test and cpp-bench need and the machine lacks, by apt-get
 #
@@ -14,9 +14,11 @@
 #
 #     CPP_MACHINE   the processor to choose by, unless it is to be this machine's
 #     CPP_LIBRARY   the archive of the C entry, unless it is to be the one that rt writes
+#     CPP_METER     the archive of the other calls that are timed, likewise
 
 CPP_MACHINE ?= $(shell uname -m)
 CPP_LIBRARY ?= target/staticlib/libsuite.a
+CPP_METER ?= target/staticlib/libmeter.a
 CPP_OUT := target/cpp
 CPP_FLAGS := -std=c++17 -O2 -Wall -Wextra -Wpedantic -Iinclude
 
@@ -64,13 +66,17 @@ cpp-suite: $(CPP_OUT)/suite_test
 	@printf 'hard test$(CPP_HOW): '
 	@$(CPP_RUN) $< $(CPP_PART)
 
-cpp-small: $(CPP_OUT)/bench
+cpp-small: $(CPP_OUT)/bench $(CPP_OUT)/calls
 	@printf 'benchmark$(CPP_HOW): '
-	@$(CPP_RUN) $< --small
+	@$(CPP_RUN) $(CPP_OUT)/bench --small
+	@printf 'benchmark of calls$(CPP_HOW): '
+	@$(CPP_RUN) $(CPP_OUT)/calls --small
 
 ifeq ($(CPP_MACHINE),x86_64)
-cpp-bench: $(CPP_OUT)/bench
-	@$<
+cpp-bench: $(CPP_OUT)/bench $(CPP_OUT)/calls
+	@$(CPP_OUT)/bench
+	@echo
+	@$(CPP_OUT)/calls
 else
 cpp-bench: cpp-instructions
 endif
@@ -90,20 +96,26 @@ $(CPP_OUT)/suite_test: tests/suite/suite_test.cpp tests/suite/definitions.hpp te
     include/mayexoton.h $(CPP_OUT)/libsuite.a | cpp-ready
 	@$(CPP_CXX) $(CPP_FLAGS) $(CPP_SANITIZE) $< $(CPP_OUT)/libsuite.a -o $@
 
-$(CPP_OUT)/bench: bench/bench.cpp bench/grids.hpp bench/instructions.hpp bench/reference.hpp include/mayexoton.h \
-    $(CPP_OUT)/libsuite.a | cpp-ready
+$(CPP_OUT)/bench: bench/bench.cpp bench/grids.hpp bench/instructions.hpp bench/reference.hpp bench/times.hpp \
+    include/mayexoton.h $(CPP_OUT)/libsuite.a | cpp-ready
 	@$(CPP_CXX) $(CPP_FLAGS) $< $(CPP_OUT)/libsuite.a -o $@
+
+$(CPP_OUT)/calls: bench/calls.cpp bench/batches.hpp bench/grids.hpp bench/meter.hpp bench/reference.hpp \
+    bench/runfile.hpp bench/times.hpp include/mayexoton.h $(CPP_OUT)/libsuite.a $(CPP_OUT)/libmeter.a | cpp-ready
+	@$(CPP_CXX) $(CPP_FLAGS) $< $(CPP_OUT)/libsuite.a $(CPP_OUT)/libmeter.a -o $@
 
 # For this machine, as the emulator is.
 $(CPP_OUT)/libcounter.so: bench/counter.cpp bench/instructions.hpp | $(CPP_OUT)
 	@$(CXX) $(CPP_FLAGS) -fPIC -shared $< -o $@
 
-# A copy that changes only when the archive does: rt writes the archive each time.
-$(CPP_OUT)/libsuite.a: $(CPP_LIBRARY) | $(CPP_OUT)
+# Copies that change only when the archives do: rt writes an archive each time.
+$(CPP_OUT)/libsuite.a: $(CPP_LIBRARY)
+$(CPP_OUT)/libmeter.a: $(CPP_METER)
+$(CPP_OUT)/libsuite.a $(CPP_OUT)/libmeter.a: | $(CPP_OUT)
 	@cmp -s $< $@ || cp $< $@
 
-target/staticlib/libsuite.a: cpp-always | $(CPP_OUT)
-	@rt staticlib suite > $(CPP_OUT)/staticlib.log 2>&1 || { cat $(CPP_OUT)/staticlib.log >&2; exit 1; }
+target/staticlib/lib%.a: cpp-always | $(CPP_OUT)
+	@rt staticlib $* > $(CPP_OUT)/staticlib-$*.log 2>&1 || { cat $(CPP_OUT)/staticlib-$*.log >&2; exit 1; }
 
 $(CPP_OUT):
 	@mkdir -p $@

@@ -1,4 +1,4 @@
-// How fast the library is, measured against a plain C++ lister of the same grids.
+// How fast the library lists, measured against a plain C++ lister of the same grids.
 //
 //     bench           times both at three sizes and prints a table
 //     bench --work    the same for an emulator, where a time says nothing: counts instructions (counter.cpp), and where
@@ -15,7 +15,6 @@
 #include <cstdio>
 #include <cstdlib>
 #include <cstring>
-#include <ctime>
 #include <string_view>
 #include <vector>
 
@@ -23,6 +22,7 @@
 #include "instructions.hpp"
 #include "mayexoton.h"
 #include "reference.hpp"
+#include "times.hpp"
 
 // The library is lent the very numbers the reference works on, so that neither pays for a copy.
 static_assert(__BYTE_ORDER__ == __ORDER_LITTLE_ENDIAN__, "the benchmark needs a little-endian machine");
@@ -110,19 +110,6 @@ void require_agreement(const Contest &contest, const char *kind, std::uint32_t r
 
 // ---- times
 
-// The processor's time, not the clock's: on a busy machine the time spent waiting is nobody's.
-template <typename Run> double nanoseconds(Run run) {
-    const std::clock_t start = std::clock();
-    run();
-    return static_cast<double>(std::clock() - start) * (1e9 / CLOCKS_PER_SEC);
-}
-
-double median(std::vector<double> values) {
-    const auto middle = values.begin() + static_cast<std::ptrdiff_t>(values.size() / 2);
-    std::nth_element(values.begin(), middle, values.end());
-    return *middle;
-}
-
 // What a list costs, per cell.
 struct Cost {
     double library;
@@ -132,26 +119,16 @@ struct Cost {
     double ratio() const { return library / reference; }
 };
 
-// Nanoseconds. Runs both in turn, so that what else the machine does meets both alike, and changes who begins.
+// Nanoseconds.
 Cost cost_in_time(const grids::Kind &kind, std::uint32_t size) {
     const grids::Heights heights = kind.make(size, size);
     Contest contest(size, heights);
-    const auto library = [&] { contest.run_library(1); };
-    const auto reference = [&] { contest.run_reference(1); };
-    library(); // once untimed: the first touch of the lent memory is the system's work
-    reference();
-    require_agreement(contest, kind.name, size, size, 1);
-
     const int turns = size < 512 ? 31 : size < 1024 ? 15 : 9;
-    std::vector<double> library_times, reference_times;
-    for (int turn = 0; turn < turns; ++turn) {
-        if (turn % 2 == 0) library_times.push_back(nanoseconds(library));
-        reference_times.push_back(nanoseconds(reference));
-        if (turn % 2 == 1) library_times.push_back(nanoseconds(library));
-        require_agreement(contest, kind.name, size, size, 1);
-    }
+    const times::Medians medians =
+        times::in_turn(turns, [&] { contest.run_library(1); }, [&] { contest.run_reference(1); },
+                       [&] { require_agreement(contest, kind.name, size, size, 1); });
     const auto cells = static_cast<double>(contest.cells());
-    return {median(library_times) / cells, median(reference_times) / cells, contest.count()};
+    return {medians.first / cells, medians.second / cells, contest.count()};
 }
 
 // Instructions. They are the same in every run, so one is enough.

@@ -1,4 +1,5 @@
 -- The lent row of records, filled from what a flat call leaves in the work area.
+--     counted-none                       no record of no cell can be read
 --     handed-fillable, handed-filled     the row after an answer, where the cells are those of the records counted
 --     end-fillable, column-fillable      what the flat call leaves may be filled into the row; at a refusal, no record
 --     end-filled, column-filled          the row that is filled so keeps the promise of the whole call
@@ -35,7 +36,7 @@ column-taken run a e n q =
 
 -- ---- the row
 
-counted-none : (s : List ℕ) → Counted s 0 0
+pub counted-none : (s : List ℕ) → Counted s 0 0
 counted-none s = record {
   area = record { few = omega arith; room = omega arith };
   few = omega arith;

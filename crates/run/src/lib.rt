@@ -238,7 +238,7 @@ pub fn end_flat(run: Run, grid: &[i32], work: &mut [u8], room: usize) -> Step
 }
 
 // How many records an answer has: none where it is a refusal.
-fn count_of(handed: Handed) -> usize
+pub fn count_of(handed: Handed) -> usize
     ensures { λ r. ⌜ r ≡ countIn handed ⌝ }
 {
     match handed {
@@ -248,7 +248,7 @@ fn count_of(handed: Handed) -> usize
 }
 
 // The cells of the work area that an answer is read from: none where it is a refusal.
-fn cells_of(handed: Handed, cells: usize) -> usize
+pub fn cells_of(handed: Handed, cells: usize) -> usize
     ensures { λ r. ⌜ r ≡ cellsIn handed cells ⌝ }
 {
     match handed {

@@ -1,9 +1,10 @@
 mod CallsRead
 mod Complement
-mod Rows
-mod Pasting
-mod Sounding
+pub mod Rows
+pub mod Pasting
+pub mod Sounding
 mod Writing
-mod Reading
+pub mod Reading
 mod Files
+pub mod Laying
 pub mod Claims

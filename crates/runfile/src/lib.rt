@@ -37,7 +37,7 @@ fn bits(height: i32) -> u32
     std::num::wrapping_add_u32(record::level(height), HALF)
 }
 
-fn signed(bits: u32) -> i32
+pub fn signed(bits: u32) -> i32
     ensures { λ r. ⌜ r ≡ signedOf bits ⌝ }
 {
     record::height(std::num::wrapping_add_u32(bits, HALF))
@@ -141,7 +141,7 @@ fn is_sound_in(file: &[u8], cells: usize, least: usize, p: Peak) -> bool
 }
 
 // The i-th record of a file of so many cells.
-fn record_in(file: &[u8], cells: usize, i: usize) -> Peak
+pub fn record_in(file: &[u8], cells: usize, i: usize) -> Peak
     requires { ⌜ totalOf cells (i + 1) ≤ length (now file) ⌝ }
     ensures { λ r. ⌜ r ≡ recordIn (now (file .entry)) cells i ⌝ }
 {
@@ -183,7 +183,7 @@ fn first_unsound_in(file: &[u8], cells: usize, n: usize) -> usize
 const STOPPED: usize = 8589934592;
 
 // A turn of a scan, at the i-th record.
-fn scan(heights: &[i32], state: usize, i: usize, p: Peak) -> usize
+pub fn scan(heights: &[i32], state: usize, i: usize, p: Peak) -> usize
     requires { ⌜ i < 1152921504606846976 ⌝ }
     ensures { λ r. ⌜ Scans (now (heights .entry)) state i p r ⌝ }
 {
@@ -197,7 +197,7 @@ fn scan(heights: &[i32], state: usize, i: usize, p: Peak) -> usize
 }
 
 // What a scan of n records has found.
-fn scanned(state: usize, n: usize) -> usize
+pub fn scanned(state: usize, n: usize) -> usize
     ensures { λ r. ⌜ r ≡ scannedOf state n ⌝ }
 {
     if state < STOPPED {
@@ -288,7 +288,7 @@ fn put_heights(room: &mut [u8], heights: &[i32])
 }
 
 // Puts the i-th record behind so many cells.
-fn put_record(room: &mut [u8], cells: usize, i: usize, p: Peak)
+pub fn put_record(room: &mut [u8], cells: usize, i: usize, p: Peak)
     requires { ⌜ totalOf cells (i + 1) ≤ length (now room) ⌝ }
     ensures { λ r. ⌜ now (room .exit) ≡ over (now (room .entry)) (totalOf cells i) (bytesOf (recordOf p)) ⌝ }
 {
@@ -312,7 +312,7 @@ fn put_records(room: &mut [u8], cells: usize, records: &[Peak], count: usize)
 }
 
 // The number of records that the answer says are to be put.
-fn records_to_put(answer: Written, n: usize) -> usize
+pub fn records_to_put(answer: Written, n: usize) -> usize
     ensures { λ r. ⌜ r ≡ putOf answer n ⌝ }
 {
     match answer {
@@ -322,7 +322,7 @@ fn records_to_put(answer: Written, n: usize) -> usize
 }
 
 // Decides the answer of `write` and, unless it is a refusal, puts header and heights.
-fn put_grid(rows: u32, heights: &[i32], n: usize, unsound: usize, room: &mut [u8]) -> Written
+pub fn put_grid(rows: u32, heights: &[i32], n: usize, unsound: usize, room: &mut [u8]) -> Written
     requires { ⌜ Few (length (now heights)) n unsound ⌝ }
     ensures { λ r. ⌜ GridPut rows (now (heights .entry)) n unsound (now (room .entry)) (now (room .exit)) r ⌝ }
 {
@@ -416,7 +416,7 @@ fn take_heights(file: &[u8], heights: &mut [i32], n: usize)
 }
 
 // The cells that the answer says are to be filled in.
-fn cells_to_take(answer: ReadBack) -> usize
+pub fn cells_to_take(answer: ReadBack) -> usize
     ensures { λ r. ⌜ r ≡ cellsToTake answer ⌝ }
 {
     match answer {
@@ -430,7 +430,7 @@ fn cells_to_take(answer: ReadBack) -> usize
 }
 
 // The records that the answer says are to be filled in.
-fn records_to_take(answer: ReadBack) -> usize
+pub fn records_to_take(answer: ReadBack) -> usize
     ensures { λ r. ⌜ r ≡ recordsToTake answer ⌝ }
 {
     match answer {

@@ -1,5 +1,5 @@
 mod Heights
 mod Bytes
-mod Putting
+pub mod Putting
 mod Answers
 pub mod Claims

@@ -1,7 +1,9 @@
 -- The records put into the table.
 --     record-put           four numbers stored one behind the other are a record
 --     recordBytes s n i    the bytes of the first i records of the work area s
---     Puts                 the invariant of the loop that puts records, with its laws
+--     Grows row peak       the row `row i` has the first i of the records `peak j`
+--     records-grow         so do the rows of a work area
+--     Puts                 the invariant of a loop that puts such records, with its laws
 -- The table is always the records put so far and then what it was behind them. A turn stores 16 bytes at the seam.
 -- Assumes nothing.
 use mathlib.Core.Path.{_≡_, refl, sym, _∙_, ap, subst}
@@ -61,25 +63,33 @@ bytes-length : (p : Peak) → length (bytesOf (recordOf p)) ≡ 16
 unfolding recordOf wordOf flatMap
 bytes-length p = refl
 
-records-suc : (s : List ℕ) (n i : ℕ)
-    → recordBytes s n (suc i) ≡ recordBytes s n i ++ bytesOf (recordOf (peakIn s n (orderIn s n i)))
-unfolding recordsIn flatMap
-records-suc s n i =
-    let p = peakIn s n (orderIn s n i) in
-    ap bytesOf
-    (flat-append recordOf (recordsIn s n i) (p ∷ [])
-    ∙ ap (λ (l : List ℕ). recordsOf (recordsIn s n i) ++ l) (append-nil (recordOf p)))
-    ∙ flat-append wordOf (recordsOf (recordsIn s n i)) (recordOf p)
+pub record Grows (row : ℕ → List Peak) (peak : ℕ → Peak) : Type 0 where
+  pub start : row 0 ≡ []
+  pub next : (i : ℕ) → row (suc i) ≡ row i ++ (peak i ∷ [])
 
-records-length : (s : List ℕ) (n i : ℕ) → length (recordBytes s n i) ≡ 16 * i
-unfolding recordsIn flatMap
-records-length s n zero = refl
-records-length s n (suc i) =
-    let p = peakIn s n (orderIn s n i) in
-    let e = records-length s n i in
-    let l = length-append (recordBytes s n i) (bytesOf (recordOf p)) in
-    let q = bytes-length p in
-    ap length (records-suc s n i) ∙ omega arith
+pub records-grow : (s : List ℕ) (n : ℕ) → Grows (recordsIn s n) (λ i. peakIn s n (orderIn s n i))
+unfolding recordsIn
+records-grow s n = record { start = refl; next = λ i. refl }
+
+module _ {row : ℕ → List Peak} {peak : ℕ → Peak} (g : Grows row peak) where
+  row-suc : (i : ℕ)
+      → bytesOf (recordsOf (row (suc i))) ≡ bytesOf (recordsOf (row i)) ++ bytesOf (recordOf (peak i))
+  unfolding flatMap
+  row-suc i =
+      ap (λ (l : List Peak). bytesOf (recordsOf l)) (g .next i)
+      ∙ ap bytesOf
+      (flat-append recordOf (row i) (peak i ∷ [])
+      ∙ ap (λ (l : List ℕ). recordsOf (row i) ++ l) (append-nil (recordOf (peak i))))
+      ∙ flat-append wordOf (recordsOf (row i)) (recordOf (peak i))
+
+  row-length : (i : ℕ) → length (bytesOf (recordsOf (row i))) ≡ 16 * i
+  unfolding flatMap
+  row-length zero = ap (λ (l : List Peak). length (bytesOf (recordsOf l))) (g .start)
+  row-length (suc i) =
+      let e = row-length i in
+      let l = length-append (bytesOf (recordsOf (row i))) (bytesOf (recordOf (peak i))) in
+      let q = bytes-length (peak i) in
+      ap length (row-suc i) ∙ omega arith
 
 -- bytes stored at the seam of what was put and what the table was behind it
 sets-seam : (x table b : List ℕ) (k : ℕ) → length x ≡ k → k + length b ≤ length table
@@ -95,43 +105,46 @@ sets-seam x table b k e room =
 
 -- ---- the loop that puts records
 
-pub record Puts (table s : List ℕ) (n count : ℕ) (t : List ℕ) (i : ℕ) : Type 0 where
+pub record Puts (table : List ℕ) (row : ℕ → List Peak) (count : ℕ) (t : List ℕ) (i : ℕ) : Type 0 where
   pub below : i ≤ count
-  pub bytes : t ≡ recordBytes s n i ++ drop (16 * i) table
+  pub bytes : t ≡ bytesOf (recordsOf (row i)) ++ drop (16 * i) table
 
-pub puts-start : (table s : List ℕ) (n count : ℕ) → Puts table s n count table 0
-unfolding recordsIn flatMap
-puts-start table s n count = record { below = zero-le; bytes = refl }
+module _ {row : ℕ → List Peak} {peak : ℕ → Peak} (g : Grows row peak) {table : List ℕ} {count : ℕ} where
+  pub puts-start : Puts table row count table 0
+  unfolding flatMap
+  puts-start = record {
+    below = zero-le;
+    bytes = ap (λ (l : List Peak). bytesOf (recordsOf l) ++ table) (sym (g .start));
+  }
 
-module _ {table s : List ℕ} {n count : ℕ} {t : List ℕ} {i : ℕ} (room : 16 * count ≤ length table)
-    (h : Puts table s n count t i) where
-  pub puts-length : length t ≡ length table
-  puts-length =
-      let b = h .below in
-      let l = records-length s n i in
-      let a = length-append (recordBytes s n i) (drop (16 * i) table) in
-      let d = length-drop (16 * i) table in
-      ap length (h .bytes) ∙ omega arith
+  module _ {t : List ℕ} {i : ℕ} (room : 16 * count ≤ length table) (h : Puts table row count t i) where
+    pub puts-length : length t ≡ length table
+    puts-length =
+        let b = h .below in
+        let l = row-length g i in
+        let a = length-append (bytesOf (recordsOf (row i))) (drop (16 * i) table) in
+        let d = length-drop (16 * i) table in
+        ap length (h .bytes) ∙ omega arith
 
-  pub puts-step : {u : List ℕ} {p : Peak} → i < count → p ≡ peakIn s n (orderIn s n i)
-      → u ≡ sets t (16 * i) (bytesOf (recordOf p)) → Puts table s n count u (i + 1)
-  puts-step {u} {p} here e q =
-      let f = bytes-length p in
-      let x = recordBytes s n i in
-      let b = bytesOf (recordOf p) in
-      let a : 16 * i + length b ≡ 16 * suc i = omega arith in
-      subst (Puts table s n count u) (sym (add-one i)) (record {
-        below = here;
-        bytes = q ∙ ap (λ (l : List ℕ). sets l (16 * i) b) (h .bytes)
-            ∙ sets-seam x table b (16 * i) (records-length s n i) (omega arith)
-            ∙ ap (λ (k : ℕ). x ++ b ++ drop k table) a
-            ∙ ap (λ (l : List ℕ). l ++ drop (16 * suc i) table)
-            (ap (λ (y : Peak). x ++ bytesOf (recordOf y)) e ∙ sym (records-suc s n i));
-      })
+    pub puts-step : {u : List ℕ} {p : Peak} → i < count → p ≡ peak i → u ≡ sets t (16 * i) (bytesOf (recordOf p))
+        → Puts table row count u (i + 1)
+    puts-step {u} {p} here e q =
+        let f = bytes-length p in
+        let x = bytesOf (recordsOf (row i)) in
+        let b = bytesOf (recordOf p) in
+        let a : 16 * i + length b ≡ 16 * suc i = omega arith in
+        subst (Puts table row count u) (sym (add-one i)) (record {
+          below = here;
+          bytes = q ∙ ap (λ (l : List ℕ). sets l (16 * i) b) (h .bytes)
+              ∙ sets-seam x table b (16 * i) (row-length g i) (omega arith)
+              ∙ ap (λ (k : ℕ). x ++ b ++ drop k table) a
+              ∙ ap (λ (l : List ℕ). l ++ drop (16 * suc i) table)
+              (ap (λ (y : Peak). x ++ bytesOf (recordOf y)) e ∙ sym (row-suc g i));
+        })
 
-pub puts-done : {table s : List ℕ} {n count : ℕ} {t : List ℕ} {i : ℕ} → Puts table s n count t i → count ≤ i
-    → t ≡ recordBytes s n count ++ drop (16 * count) table
-puts-done {table} {s} {n} {count} {i} h l =
+pub puts-done : {row : ℕ → List Peak} {table : List ℕ} {count : ℕ} {t : List ℕ} {i : ℕ} → Puts table row count t i
+    → count ≤ i → t ≡ bytesOf (recordsOf (row count)) ++ drop (16 * count) table
+puts-done {row} {table} {count} {i} h l =
     let b = h .below in
     let e : i ≡ count = omega arith in
-    h .bytes ∙ ap (λ (k : ℕ). recordBytes s n k ++ drop (16 * k) table) e
+    h .bytes ∙ ap (λ (k : ℕ). bytesOf (recordsOf (row k)) ++ drop (16 * k) table) e

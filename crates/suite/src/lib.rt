@@ -50,7 +50,7 @@ fn put_word(table: &mut [u8], i: usize, v: u32)
 }
 
 // Puts the 16 bytes of a record at the i-th place.
-fn put_record(table: &mut [u8], i: usize, peak: Peak)
+pub fn put_record(table: &mut [u8], i: usize, peak: Peak)
     requires { ⌜ 16 * i + 16 ≤ length (now table) ⌝ }
     ensures { λ r. ⌜ now (table .exit) ≡ sets (now (table .entry)) (16 * i) (bytesOf (recordOf peak)) ⌝ }
 {
@@ -61,7 +61,7 @@ fn put_record(table: &mut [u8], i: usize, peak: Peak)
 }
 
 // Puts the records that stand in the work area at the table's first places. Its other bytes stay as they were.
-fn put_records(table: &mut [u8], work: &[u8], n: usize, count: usize)
+pub fn put_records(table: &mut [u8], work: &[u8], n: usize, count: usize)
     requires { ⌜ Counted (now work) n count × (16 * count ≤ length (now table)) ⌝ }
     ensures { λ r. ⌜ now (table .exit) ≡ bytesOf (recordsOf (recordsIn (now (work .entry)) n count))
         ++ drop (16 * count) (now (table .entry)) ⌝ }

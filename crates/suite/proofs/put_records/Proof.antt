@@ -5,18 +5,19 @@ use Prim.Native.Nat.{_-_}
 use native.Mathlib.Omega.{arith}
 use denote.Ref.{now}
 use Rattle.table.proofs.Laws.{counted-pointed}
-use Rattle.suite.proofs.Putting.{Puts, puts-start, puts-length, puts-step, puts-done}
+use Rattle.table.specs.Table.{recordsIn}
+use Rattle.suite.proofs.Putting.{Puts, records-grow, puts-start, puts-length, puts-step, puts-done}
 use Rattle.suite.proofs.put_records.Statement.{statement}
 use Rattle.suite.proofs.put_records.Tie as tie
 
 abbrev Inv-loop : tie.InvT-loop
-Inv-loop table₀ work n count i₀ table i = Puts table₀ work n count table i
+Inv-loop table₀ work n count i₀ table i = Puts table₀ (recordsIn work n) count table i
 
 abbrev μ-loop : tie.MeasureT-loop
 μ-loop table₀ work n count i₀ table i = count - i
 
 loop-holds : tie.Need-loop-holds Inv-loop μ-loop
-loop-holds c = let a = c .before .before .args in puts-start (now (a .table)) (now (a .work)) (a .n) (a .count)
+loop-holds c = let a = c .before .before .args in puts-start (records-grow (now (a .work)) (a .n))
 
 record-at-requires : tie.Need-record-at-requires Inv-loop μ-loop
 record-at-requires c κs =
@@ -26,8 +27,9 @@ record-at-requires c κs =
 put-record-requires : tie.Need-put-record-requires Inv-loop μ-loop
 put-record-requires c κs =
     let at-loop = c .before .before .before in
-    let room = at-loop .before .before .before .pre .1 in
-    omega (arith, puts-length room (at-loop .loop .inv))
+    let at-entry = at-loop .before .before .before in
+    let a = at-entry .args in
+    omega (arith, puts-length (records-grow (now (a .work)) (a .n)) (at-entry .pre .1) (at-loop .loop .inv))
 
 add-i : tie.Need-add-i Inv-loop μ-loop
 add-i c = omega arith
@@ -40,11 +42,16 @@ loop-again c =
     let at-put = c .before .before in
     let at-test = at-put .before .before .before in
     let at-loop = at-test .before in
-    puts-step (at-loop .before .before .before .pre .1) (at-loop .loop .inv) (at-test .loop-test .taken)
+    let at-entry = at-loop .before .before .before in
+    let a = at-entry .args in
+    puts-step (records-grow (now (a .work)) (a .n)) (at-entry .pre .1) (at-loop .loop .inv) (at-test .loop-test .taken)
     (at-put .before .record-at .ensures) (at-put .put-record .ensures)
 
 same-length : tie.Need-same-length Inv-loop μ-loop
-same-length c = puts-length (c .before .before .before .before .pre .1) (c .before .loop .inv)
+same-length c =
+    let at-entry = c .before .before .before .before in
+    let a = at-entry .args in
+    puts-length (records-grow (now (a .work)) (a .n)) (at-entry .pre .1) (c .before .loop .inv)
 
 returns : tie.Need-returns Inv-loop μ-loop
 returns c = puts-done (c .before .loop .inv) (c .loop-test .left)

@@ -1,0 +1,27 @@
+// What the library offers to be timed: the calls of the proved crate `meter`, whose archive is linked beside that of
+// the C entry.
+//
+// A slice is lent as a pointer and its length, which counts heights of 32 bits or bytes. Records are bytes in the
+// file's layout. The answer is a count, or minus the refusal number.
+#pragma once
+
+#include <cstddef>
+#include <cstdint>
+
+extern "C" {
+
+// Offers a column to a run that has not ended. Answers how many records the table got.
+std::int64_t meter_column(std::uint32_t rows, std::uint32_t columns_taken, std::uint32_t threshold,
+                          const std::int32_t *column, std::size_t column_length, std::int32_t *grid,
+                          std::size_t grid_length, std::uint8_t *work, std::size_t work_bytes, std::uint8_t *table,
+                          std::size_t table_bytes);
+
+// Writes a run file. Answers how many bytes it has.
+std::int64_t meter_write(std::uint32_t rows, const std::int32_t *heights, std::size_t heights_length,
+                         const std::uint8_t *records, std::size_t records_bytes, std::uint8_t *room,
+                         std::size_t room_bytes);
+
+// Reads a run file. Answers how many records the table got.
+std::int64_t meter_read(const std::uint8_t *file, std::size_t file_bytes, std::int32_t *heights,
+                        std::size_t heights_length, std::uint8_t *table, std::size_t table_bytes);
+}

@@ -1,0 +1,6 @@
+mod Numbers
+mod Peaks
+mod Handing
+mod Writing
+mod Taking
+pub mod Claims

@@ -1,0 +1,90 @@
+-- `meter::first_unsound` meets its contract. The invariant: the state is that of a scan before the i-th record
+-- (`Scanned`). A turn takes the scan past it; what is left of the row falls. Assumes nothing.
+use mathlib.Core.List.{List}
+use mathlib.Core.Path.{_≡_, sym, ap, _∙_, subst}
+use Prim.Native.Nat.{ℕ, _+_, _-_, _/_, _≤_, _<_}
+use native.Mathlib.Omega.{arith}
+use denote.Ref.{now}
+use lib.IntN.{ℤ}
+use lib.ListN.{length}
+use borrow.Author.Needs.{needs}
+use Rattle.record.specs.declared.Peak.{Peak}
+use Rattle.runfile.specs.Sound.{FirstUnsound}
+use Rattle.runfile.specs.Steps.{Scans, scannedOf}
+use Rattle.runfile.proofs.Sounding.{Scanned, scanned-start, scanned-step, scanned-done}
+use Rattle.meter.specs.Metered.{peakOf, peaksOf}
+use Rattle.meter.proofs.Peaks.{peaks-length, peaks-at}
+use Rattle.meter.proofs.first_unsound.Statement.{statement}
+use Rattle.meter.proofs.first_unsound.Tie as tie
+
+-- ---- a scan of n records
+
+abbrev ScannedOf : List ℤ → List ℕ → ℕ → ℕ → ℕ → Type 0
+ScannedOf hs s n i state = (i ≤ n) × Scanned hs (peaksOf s n) i state
+
+module _ (hs : List ℤ) (s : List ℕ) (n : ℕ) {i state : ℕ} (h : ScannedOf hs s n i state) where
+  scan-on : {p : Peak} {next : ℕ} → i < n → p ≡ peakOf s i → Scans hs state i p next → ScannedOf hs s n (i + 1) next
+  scan-on {p} {next} l e t = (
+    omega arith,
+    scanned-step (h .1) (omega (arith, peaks-length s n))
+        (subst (λ (q : Peak). Scans hs state i q next) (e ∙ sym (peaks-at s n i l)) t),
+  )
+
+  scan-end : {r : ℕ} → n ≤ i → r ≡ scannedOf state n → FirstUnsound hs (peaksOf s n) r
+  scan-end {r} l e =
+      let len = peaks-length s n in
+      let below = h .0 in
+      subst (FirstUnsound hs (peaksOf s n)) (ap (scannedOf state) len ∙ sym e)
+      (scanned-done (h .1) (omega arith))
+
+-- ---- the answers
+
+abbrev Inv-loop : tie.InvT-loop
+Inv-loop heights records n state₀ i₀ state i = ScannedOf heights records n i state
+
+abbrev μ-loop : tie.MeasureT-loop
+μ-loop heights records n state₀ i₀ state i = n - i
+
+loop-holds : tie.Need-loop-holds Inv-loop μ-loop
+loop-holds c = (omega arith, scanned-start _ _)
+
+peak-of-requires : tie.Need-peak-of-requires Inv-loop μ-loop
+peak-of-requires c κs = omega arith
+
+scan-requires : tie.Need-scan-requires Inv-loop μ-loop
+scan-requires c κs = omega arith
+
+add-i : tie.Need-add-i Inv-loop μ-loop
+add-i c = omega arith
+
+loop-less : tie.Need-loop-less Inv-loop μ-loop
+loop-less c = omega arith
+
+loop-again : tie.Need-loop-again Inv-loop μ-loop
+loop-again c =
+    let at-loop = c .before .before .before in
+    let a = at-loop .before .before .args in
+    scan-on (now (a .heights)) (now (a .records)) (length (now (a .records)) / 16) (at-loop .loop .inv)
+    (c .before .before .loop-test .taken) (c .before .peak-of .ensures) (c .scan .ensures)
+
+returns : tie.Need-returns Inv-loop μ-loop
+returns c =
+    let at-loop = c .before .before in
+    let a = at-loop .before .before .args in
+    scan-end (now (a .heights)) (now (a .records)) (length (now (a .records)) / 16) (at-loop .loop .inv)
+    (c .before .loop-test .left) (c .scanned .ensures)
+
+pub first-unsound-spec : {M : Type 1} → statement M
+first-unsound-spec =
+    tie.close
+    (tie.spec
+    Inv-loop
+    μ-loop
+    loop-holds
+    peak-of-requires
+    scan-requires
+    add-i
+    loop-less
+    loop-again
+    (λ c κs. search needs)
+    returns)

@@ -1,0 +1,31 @@
+-- `meter::handed_number` meets its contract, case by case: a count has 32 bits, so that it is read from 64 as it is.
+-- Assumes nothing.
+use mathlib.Core.Path.{sym, _∙_, ap}
+use native.Mathlib.Omega.{arith}
+use mir.Syntax.{w64}
+use mir.ValLaws.{toZ-ofZ}
+use borrow.Author.Needs.{needs}
+use Rattle.meter.specs.Numbers.{handedNumber}
+use Rattle.meter.proofs.Numbers.{count-read}
+use Rattle.meter.proofs.handed_number.Statement.{statement}
+use Rattle.meter.proofs.handed_number.Tie as tie
+
+returns : tie.Need-returns
+returns c =
+    count-read (c .before .handed .given .0 .0) (omega arith) ∙ sym (ap handedNumber (c .before .handed .given .1))
+
+returns-2 : tie.Need-returns-2
+returns-2 c =
+    toZ-ofZ w64 _ (record { sfits = c .refused-number .ok }) ∙ c .refused-number .ensures
+    ∙ sym (ap handedNumber (c .before .before .handed2 .given .1))
+
+pub handed-number-spec : {M : Type 1} → statement M
+handed-number-spec =
+    tie.close
+    (tie.spec
+    (λ c. search needs)
+    (λ c. search needs)
+    (λ c. search needs)
+    (λ c κs. search needs)
+    returns
+    returns-2)

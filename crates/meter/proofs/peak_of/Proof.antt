@@ -1,0 +1,46 @@
+-- `meter::peak_of` meets its contract: its four numbers are those of the record. Assumes nothing.
+use mathlib.Core.Path.{_∙_}
+use mir.Syntax.{w32}
+use mir.ValLaws.{toZ-ofZ}
+use borrow.Author.Needs.{needs}
+use Rattle.meter.specs.Metered.{peakOf}
+use Rattle.meter.proofs.peak_of.Statement.{statement}
+use Rattle.meter.proofs.peak_of.Tie as tie
+
+returns : tie.Need-returns
+unfolding peakOf
+returns c =
+    let c4 = c .before .before .before .before in
+    let height = c4 .signed in
+    let key = c .before .before .signed2 in
+    c .with-key .ensures
+    ∙ rw (
+      toZ-ofZ w32 (height .result) (record { sfits = height .ok }),
+      toZ-ofZ w32 (key .result) (record { sfits = key .ok }),
+      height .ensures,
+      key .ensures,
+      c4 .before .before .get .ensures,
+      c4 .before .get2 .ensures,
+      c .before .before .before .get3 .ensures,
+      c .before .get4 .ensures,
+    )
+
+pub peak-of-spec : {M : Type 1} → statement M
+peak-of-spec =
+    tie.close
+    (tie.spec
+    (λ c. search needs)
+    (λ c κs. search needs)
+    (λ c. search needs)
+    (λ c. search needs)
+    (λ c κs. search needs)
+    (λ c κs. search needs)
+    (λ c. search needs)
+    (λ c. search needs)
+    (λ c κs. search needs)
+    (λ c κs. search needs)
+    (λ c. search needs)
+    (λ c. search needs)
+    (λ c κs. search needs)
+    (λ c κs. search needs)
+    returns)
