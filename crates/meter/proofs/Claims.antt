@@ -10,10 +10,10 @@ use Rattle.relief.specs.Peaks.{Entry}
 use Rattle.relief.proofs.Listing.{order-unique}
 use Rattle.run.specs.declared.Handed.{Handed}
 use Rattle.run.specs.Running.{columnCheck, handedAnswer}
-use Rattle.runfile.specs.declared.ReadBack.{ReadBack}
-use Rattle.runfile.specs.Layout.{bytesOf, recordsOf, recordsIn, heightsIn, cellsIn, peaksIn}
-use Rattle.runfile.specs.Reading.{readOf, lentOf}
-use Rattle.runfile.proofs.Sounding.{first-unique}
+use Rattle.layout.specs.declared.ReadBack.{ReadBack}
+use Rattle.layout.specs.Layout.{bytesOf, recordsOf, recordsIn, heightsIn, cellsIn, peaksIn}
+use Rattle.layout.specs.Reading.{readOf, lentOf}
+use Rattle.layout.proofs.Sounding.{first-unique}
 use Rattle.runfile.proofs.Claims as runfile
 use Rattle.meter.specs.Numbers.{handedNumber, writtenNumber, readNumber}
 use Rattle.meter.specs.Metered.{openRun, handedBytes}

@@ -17,7 +17,7 @@ use Rattle.run.specs.declared.Handed.{Handed}
 use Rattle.run.specs.declared.Handed.the-variants.{Count, Refused}
 use Rattle.run.specs.Running.{takenOf, countIn, cellsIn, FlatColumn}
 use Rattle.run.proofs.Rows.{counted-none}
-use Rattle.runfile.specs.Layout.{bytesOf, recordsOf}
+use Rattle.layout.specs.Layout.{bytesOf, recordsOf}
 use Rattle.meter.specs.Metered.{handedBytes}
 
 module _ (left table : List ℕ) (cells : ℕ) where

@@ -8,7 +8,7 @@ use native.Mathlib.Decide.{decLt}
 use native.Mathlib.Omega.{arith}
 use lib.ListN.{length, length-append, List·getD-append}
 use lib.Seq.{getD-at}
-use Rattle.runfile.specs.Sound.{recordAt}
+use Rattle.layout.specs.Sound.{recordAt}
 use Rattle.meter.specs.Metered.{peakOf, peaksOf}
 
 pub peaks-length : (s : List ℕ) (n : ℕ) → length (peaksOf s n) ≡ n

@@ -7,12 +7,12 @@ use mathlib.Core.List.{List, _++_, flatMap}
 use Prim.Native.Nat.{ℕ, _*_, _/_, _≤_, _<_}
 use native.Mathlib.Omega.{arith}
 use lib.ListN.{length, drop}
-use Rattle.runfile.specs.declared.ReadBack.{ReadBack}
-use Rattle.runfile.specs.declared.ReadBack.the-variants.{Run, Refused}
-use Rattle.runfile.specs.Layout.{totalOf, bytesOf, recordsOf, recordsIn, cellsIn, peaksIn}
-use Rattle.runfile.specs.Reading.{Judges, lentOf}
-use Rattle.runfile.specs.Steps.{cellsToTake, recordsToTake}
-use Rattle.runfile.proofs.Reading.{read-readable, read-same}
+use Rattle.layout.specs.declared.ReadBack.{ReadBack}
+use Rattle.layout.specs.declared.ReadBack.the-variants.{Run, Refused}
+use Rattle.layout.specs.Layout.{totalOf, bytesOf, recordsOf, recordsIn, cellsIn, peaksIn}
+use Rattle.layout.specs.Reading.{Judges, lentOf}
+use Rattle.layout.specs.Steps.{cellsToTake, recordsToTake}
+use Rattle.layout.proofs.Reading.{read-readable, read-same}
 
 module _ (f : List ℕ) (heights : ℕ) (table : List ℕ) where
   abbrev room : ℕ

@@ -10,12 +10,12 @@ use native.Mathlib.Omega.{arith}
 use lib.IntN.{ℤ}
 use lib.ListN.{length}
 use Rattle.record.specs.declared.Peak.{Peak}
-use Rattle.runfile.specs.declared.Written.{Written}
-use Rattle.runfile.specs.Sound.{FirstUnsound}
-use Rattle.runfile.specs.Steps.{Few, GridPut, Puttable, laid, putOf}
-use Rattle.runfile.specs.Writing.{Writes}
-use Rattle.runfile.proofs.Sounding.{first-few}
-use Rattle.runfile.proofs.Laying.{grid-puttable, grid-written}
+use Rattle.layout.specs.declared.Written.{Written}
+use Rattle.layout.specs.Sound.{FirstUnsound}
+use Rattle.layout.specs.Steps.{Few, GridPut, Puttable, laid, putOf}
+use Rattle.runfile.specs.Promises.{Writes}
+use Rattle.layout.proofs.Sounding.{first-few}
+use Rattle.layout.proofs.Laying.{grid-puttable, grid-written}
 use Rattle.meter.specs.Metered.{peaksOf}
 use Rattle.meter.proofs.Peaks.{peaks-length}
 

@@ -23,11 +23,11 @@ use Rattle.run.specs.declared.Run.{Run}
 use Rattle.run.specs.declared.Handed.{Handed}
 use Rattle.run.specs.declared.Handed.the-variants.{Count, Refused}
 use Rattle.run.specs.Running.{columnCheck, handedAnswer, columnGrid, heightsWith}
-use Rattle.runfile.specs.declared.Written.{Written}
-use Rattle.runfile.specs.declared.ReadBack.{ReadBack}
-use Rattle.runfile.specs.Layout.{signedOf, bytesOf, recordsOf, recordsIn, heightsIn, cellsIn, peaksIn}
-use Rattle.runfile.specs.Writing.{Writes}
-use Rattle.runfile.specs.Reading.{Judges, lentOf}
+use Rattle.layout.specs.declared.Written.{Written}
+use Rattle.layout.specs.declared.ReadBack.{ReadBack}
+use Rattle.layout.specs.Layout.{signedOf, bytesOf, recordsOf, recordsIn, heightsIn, cellsIn, peaksIn}
+use Rattle.runfile.specs.Promises.{Writes}
+use Rattle.layout.specs.Reading.{Judges, lentOf}
 use Rattle.meter.specs.Numbers.{handedNumber, writtenNumber, readNumber}
 
 -- ---- Column

@@ -10,10 +10,10 @@ use Rattle.record.specs.declared.Refusal.{Refusal}
 use Rattle.record.specs.Refusals.{toldOf}
 use Rattle.run.specs.declared.Handed.{Handed}
 use Rattle.run.specs.declared.Handed.the-variants as handed
-use Rattle.runfile.specs.declared.Written.{Written}
-use Rattle.runfile.specs.declared.Written.the-variants as written
-use Rattle.runfile.specs.declared.ReadBack.{ReadBack}
-use Rattle.runfile.specs.declared.ReadBack.the-variants as read-back
+use Rattle.layout.specs.declared.Written.{Written}
+use Rattle.layout.specs.declared.Written.the-variants as written
+use Rattle.layout.specs.declared.ReadBack.{ReadBack}
+use Rattle.layout.specs.declared.ReadBack.the-variants as read-back
 
 -- "minus the refusal number"
 abbrev pub refusedNumber : Refusal → ℤ

@@ -4,17 +4,17 @@ ghost use mathlib.Core.Path.{_≡_};
 ghost use mathlib.Core.List.{_++_};
 ghost use Prim.Native.Nat.{_+_, _*_, _/_, _≤_, _<_};
 ghost use lib.ListN.{length, drop};
-ghost use Rattle.runfile.specs.Layout.{totalOf, bytesOf, recordsOf, recordsIn};
-ghost use Rattle.runfile.specs.Sound.{FirstUnsound};
-ghost use Rattle.runfile.specs.Steps.{Puttable, laid};
+ghost use Rattle.layout.specs.Layout.{totalOf, bytesOf, recordsOf, recordsIn};
+ghost use Rattle.layout.specs.Sound.{FirstUnsound};
+ghost use Rattle.layout.specs.Steps.{Puttable, laid};
 ghost use Rattle.meter.specs.Numbers.{refusedNumber, handedNumber, writtenNumber, readNumber};
 ghost use Rattle.meter.specs.Metered.{peakOf, peaksOf, MeterColumns, MeterWrites, MeterReads};
+use layout::ReadBack;
+use layout::Written;
 use record::Peak;
 use record::Refusal;
 use run::Handed;
 use run::Run;
-use runfile::ReadBack;
-use runfile::Written;
 
 // ---- answers as numbers
 
@@ -101,8 +101,8 @@ fn peak_of(records: &[u8], i: usize) -> Peak
     ensures { λ r. ⌜ r ≡ peakOf (now (records .entry)) i ⌝ }
 {
     let cell = words::get(records, 4 * i);
-    let height = runfile::signed(words::get(records, 4 * i + 1));
-    let key = runfile::signed(words::get(records, 4 * i + 2));
+    let height = layout::signed(words::get(records, 4 * i + 1));
+    let key = layout::signed(words::get(records, 4 * i + 2));
     let pass = words::get(records, 4 * i + 3);
     Peak::with_key(cell, height, key, pass)
 }
@@ -116,10 +116,10 @@ fn first_unsound(heights: &[i32], records: &[u8]) -> usize
     let mut state: usize = 0;
     let mut i: usize = 0;
     while i < n {
-        state = runfile::scan(heights, state, i, peak_of(records, i));
+        state = layout::scan(heights, state, i, peak_of(records, i));
         i += 1;
     }
-    runfile::scanned(state, n)
+    layout::scanned(state, n)
 }
 
 // Puts the first `count` records behind so many cells.
@@ -130,7 +130,7 @@ fn lay_records(room: &mut [u8], cells: usize, records: &[u8], count: usize)
 {
     let mut i: usize = 0;
     while i < count {
-        runfile::put_record(room, cells, i, peak_of(records, i));
+        layout::put_record(room, cells, i, peak_of(records, i));
         i += 1;
     }
 }
@@ -144,8 +144,8 @@ pub extern "C" fn meter_write(rows: u32, heights: &[i32], records: &[u8], room: 
 {
     let n = records.len() / 16;
     let unsound = first_unsound(heights, records);
-    let written = runfile::put_grid(rows, heights, n, unsound, room);
-    let count = runfile::records_to_put(written, n);
+    let written = layout::put_grid(rows, heights, n, unsound, room);
+    let count = layout::records_to_put(written, n);
     lay_records(room, heights.len(), records, count);
     written_number(written)
 }
@@ -160,7 +160,7 @@ fn take_records(table: &mut [u8], file: &[u8], cells: usize, count: usize)
 {
     let mut i: usize = 0;
     while i < count {
-        suite::put_record(table, i, runfile::record_in(file, cells, i));
+        suite::put_record(table, i, layout::record_in(file, cells, i));
         i += 1;
     }
 }
@@ -172,9 +172,9 @@ pub extern "C" fn meter_read(file: &[u8], heights: &mut [i32], table: &mut [u8])
     ensures { λ r. ⌜ MeterReads (now (file .entry)) (now (heights .entry)) (now (heights .exit)) (now (table .entry))
         (now (table .exit)) r ⌝ }
 {
-    let back = runfile::take_grid(file, heights, table.len() / 16);
-    let cells = runfile::cells_to_take(back);
-    let count = runfile::records_to_take(back);
+    let back = layout::take_grid(file, heights, table.len() / 16);
+    let cells = layout::cells_to_take(back);
+    let count = layout::records_to_take(back);
     take_records(table, file, cells, count);
     read_number(back)
 }

@@ -1,11 +1,11 @@
 // The program that lists a run file: it reads one on standard input and lists its heights afresh at threshold 1.
 ghost use Rattle.table.specs.Table.{Counted};
+use layout::ReadBack;
 use libc::STDIN_FILENO;
 use libc::STDOUT_FILENO;
 use list::Listed;
 use record::Peak;
 use record::Refusal;
-use runfile::ReadBack;
 
 // "The program takes at most 65,536 bytes [..] and 4,096 cells".
 const MOST_CELLS: usize = 4096;
@@ -111,19 +111,19 @@ fn is_large(file: &[u8]) -> bool {
     if 1024 < rows {
         return false;
     }
-    MOST_CELLS < runfile::cells_of(rows, words::get(file, 1))
+    MOST_CELLS < layout::cells_of(rows, words::get(file, 1))
 }
 
 // Reads a run file and writes the list of its heights. The stored records are read for soundness only.
 fn list_file(file: &[u8]) {
     let mut heights = [0i32; 4096];
-    match runfile::take_grid(file, &mut heights, MOST_CELLS) {
+    match layout::take_grid(file, &mut heights, MOST_CELLS) {
         ReadBack::Run {
             rows,
             columns,
             peaks: _,
         } => {
-            let cells = runfile::cells_of(rows, columns);
+            let cells = layout::cells_of(rows, columns);
             if cells <= MOST_CELLS {
                 say_list(rows, columns, &heights[0..cells]);
             }

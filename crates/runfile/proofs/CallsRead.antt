@@ -26,15 +26,15 @@ use denote.Enum.Laws as EL
 use denote.Triple.Statement.{Contract, Triple}
 use denote.Triple.Clauses.{ensured, lasts}
 use denote.Triple.Spec.{tripleOf}
-use Rattle.runfile.specs.declared.ReadBack.{ReadBack}
-use Rattle.runfile.specs.Steps.{cellsToTake, recordsToTake}
+use Rattle.layout.specs.declared.ReadBack.{ReadBack}
+use Rattle.layout.specs.Steps.{cellsToTake, recordsToTake}
 use Rattle.table.proofs.Locals.{calls-number}
-use Rattle.runfile.proofs.ReadBack as S
-use Rattle.runfile.proofs.ReadBack.Laws as S′
-use Rattle.runfile.proofs.cells_to_take as cells-of
-use Rattle.runfile.proofs.cells_to_take.Symbol.{name as #runfile·cells-to-take}
-use Rattle.runfile.proofs.records_to_take as count-of
-use Rattle.runfile.proofs.records_to_take.Symbol.{name as #runfile·records-to-take}
+use Rattle.layout.proofs.ReadBack as S
+use Rattle.layout.proofs.ReadBack.Laws as S′
+use Rattle.layout.proofs.cells_to_take as cells-of
+use Rattle.layout.proofs.cells_to_take.Symbol.{name as #layout·cells-to-take}
+use Rattle.layout.proofs.records_to_take as count-of
+use Rattle.layout.proofs.records_to_take.Symbol.{name as #layout·records-to-take}
 
 module _ {M : Type 1} (𝓤 : URA M) (H : Heap 𝓤) (A : Atoms 𝓤) (mem : Memory → SProp 𝓤) (run : Routine → Fun 𝓤) where
   abbrev pub CellsToTake : Contract 𝓤
@@ -74,19 +74,19 @@ module _ {M : Type 1} (𝓤 : URA M) (H : Heap 𝓤) (A : Atoms 𝓤) (W : Given
 
   module _ {K : Type 0} {Γ : List (Item 𝓤)} {E : Env 𝓤 H} {C : Calls 𝓤 H} {Λ : Loops 𝓤 H} {p : Post 𝓤 H}
       {xs : List Operand} {d : Place} {rest : Body} where
-    pub calls-cells : K → FmC 𝓤 H (W .laws) C → Triple 𝓤 (C #runfile·cells-to-take) (CellsToTake 𝓤 H A mem run)
+    pub calls-cells : K → FmC 𝓤 H (W .laws) C → Triple 𝓤 (C #layout·cells-to-take) (CellsToTake 𝓤 H A mem run)
         → Opds K W (raw (CellsToTake 𝓤 H A mem run .pre to-cells) ∷ Γ) E xs (u ∷ [])
         → (cellsToTake r < 2 ^ 64 → Seq K W Γ (lands C Λ E d (vint w64 (cellsToTake r)) rest p))
-        → Seq K W Γ (runs C Λ E (seq (call #runfile·cells-to-take xs d) rest) p)
+        → Seq K W Γ (runs C Λ E (seq (call #layout·cells-to-take xs d) rest) p)
     calls-cells t fm known os after =
         calls-number t fm (CellsToTake 𝓤 H A mem run) known to-cells (cellsToTake r)
         (ensured 𝓤 H A cells-of.ended (cells-of.clauses 𝓤 H A mem run) tt (r, tt) tt) goes-cells (λ v. id⊢ 𝓤 _) cells-said os
         after
 
-    pub calls-records : K → FmC 𝓤 H (W .laws) C → Triple 𝓤 (C #runfile·records-to-take) (RecordsToTake 𝓤 H A mem run)
+    pub calls-records : K → FmC 𝓤 H (W .laws) C → Triple 𝓤 (C #layout·records-to-take) (RecordsToTake 𝓤 H A mem run)
         → Opds K W (raw (RecordsToTake 𝓤 H A mem run .pre to-records) ∷ Γ) E xs (u ∷ [])
         → (recordsToTake r < 2 ^ 64 → Seq K W Γ (lands C Λ E d (vint w64 (recordsToTake r)) rest p))
-        → Seq K W Γ (runs C Λ E (seq (call #runfile·records-to-take xs d) rest) p)
+        → Seq K W Γ (runs C Λ E (seq (call #layout·records-to-take xs d) rest) p)
     calls-records t fm known os after =
         calls-number t fm (RecordsToTake 𝓤 H A mem run) known to-records (recordsToTake r)
         (ensured 𝓤 H A count-of.ended (count-of.clauses 𝓤 H A mem run) tt (r, tt) tt) goes-records (λ v. id⊢ 𝓤 _) records-said os

@@ -12,24 +12,25 @@ use lib.IntN.{ℤ}
 use lib.ListN.{length, getD, take, drop}
 use lib.Seq.{take-at}
 use Rattle.record.specs.declared.Peak.{Peak}
-use Rattle.runfile.specs.declared.Written.{Written}
-use Rattle.runfile.specs.declared.Written.the-variants.{Bytes}
-use Rattle.runfile.specs.declared.ReadBack.{ReadBack}
-use Rattle.runfile.specs.declared.ReadBack.the-variants.{Run}
-use Rattle.runfile.specs.Layout.{totalOf, fileOf, rowsIn, columnsIn, peaksIn, cellsIn, heightsIn, recordsIn}
-use Rattle.runfile.specs.Sound.{FirstUnsound}
-use Rattle.runfile.specs.Writing.{writtenOf, roomOf, Writes}
-use Rattle.runfile.specs.Reading.{readOf, lentOf, Reads}
-use Rattle.runfile.specs.Steps.{cellsToTake, recordsToTake}
-use Rattle.runfile.specs.Claims.{WriteUnique, ReadUnique, GridOf, SoundRow, SameRun, ReadsBackWrites}
+use Rattle.layout.specs.declared.Written.{Written}
+use Rattle.layout.specs.declared.Written.the-variants.{Bytes}
+use Rattle.layout.specs.declared.ReadBack.{ReadBack}
+use Rattle.layout.specs.declared.ReadBack.the-variants.{Run}
+use Rattle.layout.specs.Layout.{totalOf, fileOf, rowsIn, columnsIn, peaksIn, cellsIn, heightsIn, recordsIn}
+use Rattle.layout.specs.Sound.{FirstUnsound, GridOf, SoundRow}
+use Rattle.layout.specs.Writing.{writtenOf, roomOf}
+use Rattle.layout.specs.Reading.{readOf, lentOf}
+use Rattle.runfile.specs.Promises.{Writes, Reads}
+use Rattle.layout.specs.Steps.{cellsToTake, recordsToTake}
+use Rattle.runfile.specs.Claims.{WriteUnique, ReadUnique, SameRun, ReadsBackWrites}
 use Rattle.runfile.specs.Claims.{WritesBackReads, Claims}
-use Rattle.runfile.proofs.Files.{file-length, file-rows, file-columns, file-peaks, file-offset, file-offset-2}
-use Rattle.runfile.proofs.Files.{file-total, back-cells, back-heights, back-records, read-file}
-use Rattle.runfile.proofs.Reading.{Counted, Gridded, Whole, Readable, counted-right, read-run}
-use Rattle.runfile.proofs.Reading.{read-readable, read-same}
-use Rattle.runfile.proofs.Rows.{heights-length, records-length}
-use Rattle.runfile.proofs.Sounding.{first-unique, first-all, first-few}
-use Rattle.runfile.proofs.Writing.{write-bytes}
+use Rattle.layout.proofs.Files.{file-length, file-rows, file-columns, file-peaks, file-offset, file-offset-2}
+use Rattle.layout.proofs.Files.{file-total, back-cells, back-heights, back-records, read-file}
+use Rattle.layout.proofs.Reading.{Counted, Gridded, Whole, Readable, counted-right, read-run}
+use Rattle.layout.proofs.Reading.{read-readable, read-same}
+use Rattle.layout.proofs.Rows.{heights-length, records-length}
+use Rattle.layout.proofs.Sounding.{first-unique, first-all, first-few}
+use Rattle.layout.proofs.Writing.{write-bytes}
 
 -- ---- one answer
 

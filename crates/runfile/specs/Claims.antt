@@ -1,29 +1,23 @@
 -- What is claimed of the run file beyond the contracts.
 --     WriteUnique            the promise of `write` allows one answer and one room at the end
 --     ReadUnique             the promise of `read` allows one answer, one row of heights and one table at the end
---     GridOf rows heights    a grid that has a file: its rows, its cells, its heights
---     SoundRow heights records    every record of the row is sound
 --     ReadsBackWrites        what was written is read back
 --     WritesBackReads        what was read is written back
 --     Claims                 all of these
--- `SFits w32 z` says that z is a signed 32-bit number. Assumes nothing.
+-- Assumes nothing.
 use mathlib.Core.List.{List, _++_}
 use mathlib.Core.Path.{_≡_}
 use Prim.Native.Nat.{ℕ, _*_, _/_, _%_, _≤_, _<_}
 use lib.IntN.{ℤ}
 use lib.ListN.{length, getD, take, drop}
-use mir.Syntax.{w32}
-use mir.Val.{SFits}
-use Rattle.relief.specs.Heights.{BLANK}
 use Rattle.record.specs.declared.Peak.{Peak}
-use Rattle.runfile.specs.declared.Written.{Written}
-use Rattle.runfile.specs.declared.Written.the-variants.{Bytes}
-use Rattle.runfile.specs.declared.ReadBack.{ReadBack}
-use Rattle.runfile.specs.declared.ReadBack.the-variants.{Run}
-use Rattle.runfile.specs.Layout.{totalOf}
-use Rattle.runfile.specs.Sound.{Sound, recordAt, leastAt}
-use Rattle.runfile.specs.Writing.{Writes}
-use Rattle.runfile.specs.Reading.{Reads}
+use Rattle.layout.specs.declared.Written.{Written}
+use Rattle.layout.specs.declared.Written.the-variants.{Bytes}
+use Rattle.layout.specs.declared.ReadBack.{ReadBack}
+use Rattle.layout.specs.declared.ReadBack.the-variants.{Run}
+use Rattle.layout.specs.Layout.{totalOf}
+use Rattle.layout.specs.Sound.{GridOf, SoundRow}
+use Rattle.runfile.specs.Promises.{Writes, Reads}
 
 -- ---- one answer
 
@@ -38,19 +32,6 @@ ReadUnique =
     Reads f heights h table t a → Reads f heights h′ table t′ a′ → (a ≡ a′) × ((h ≡ h′) × (t ≡ t′))
 
 -- ---- there and back
-
--- "A run has 1 to 1,024 rows and zero or more columns, at most 1,048,576 cells. Heights are lent as signed 32-bit
--- numbers".
-pub record GridOf (rows : ℕ) (heights : List ℤ) : Type 0 where
-  pub some : 0 < rows
-  pub few : rows ≤ 1024
-  pub whole : length heights % rows ≡ 0
-  pub cells : length heights ≤ 1048576
-  pub fit : (i : ℕ) → i < length heights → SFits w32 (getD heights i BLANK)
-
-abbrev pub SoundRow : List ℤ → List Peak → Type 0
-SoundRow heights records =
-    (i : ℕ) → i < length records → Sound heights (leastAt records i) (recordAt records i)
 
 -- What is read is the run: its counts, its heights hs in the lent row s, its records ps in the lent table t.
 pub record SameRun (rows : ℕ) (hs s s′ : List ℤ) (ps t t′ : List Peak) (a : ReadBack) : Type 0 where

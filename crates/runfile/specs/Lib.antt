@@ -1,6 +1,2 @@
-pub mod Layout
-pub mod Sound
-pub mod Writing
-pub mod Reading
-pub mod Steps
+pub mod Promises
 pub mod Claims

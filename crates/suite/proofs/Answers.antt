@@ -20,7 +20,7 @@ use Rattle.relief.proofs.Grids.{plane-terrain}
 use Rattle.record.specs.declared.Peak.{Peak}
 use Rattle.words.specs.Area.{levelIn}
 use Rattle.sweep.specs.Taking.{cut}
-use Rattle.runfile.specs.Layout.{bytesOf, recordsOf}
+use Rattle.layout.specs.Layout.{bytesOf, recordsOf}
 use Rattle.survey.specs.Answers.{entriesIn, Loaded, Answered}
 use Rattle.survey.proofs.Recording.{places-record, places-length}
 use Rattle.suite.specs.Entry.{heightsOf, pickNumber, suiteAnswer, suiteTable, SuiteLists}

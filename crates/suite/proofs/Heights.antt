@@ -29,7 +29,7 @@ use Rattle.sweep.specs.Taking.{cut}
 use Rattle.sweep.proofs.Work.{cut-below, cut-behind}
 use Rattle.survey.specs.Answers.{Loaded}
 use Rattle.survey.proofs.Marking.{Loads, loads-step}
-use Rattle.runfile.specs.Layout.{bitsOf, signedOf}
+use Rattle.layout.specs.Layout.{bitsOf, signedOf}
 use Rattle.suite.specs.Entry.{heightsOf}
 
 -- ---- one height

@@ -18,7 +18,7 @@ use Rattle.relief.specs.Plane.{Plane}
 use Rattle.relief.proofs.Deciding.{either}
 use Rattle.record.specs.Records.{recordOf}
 use Rattle.words.specs.Words.{wordAt}
-use Rattle.runfile.specs.Layout.{signedOf, bytesOf, recordsOf}
+use Rattle.layout.specs.Layout.{signedOf, bytesOf, recordsOf}
 
 -- "passes heights and records as bytes, in the file's layouts": "Heights and key heights are signed 32-bit two's
 -- complement; all is little-endian."

@@ -6,7 +6,7 @@ ghost use lib.ListN.{length, drop};
 ghost use lib.Seq.{sets};
 ghost use Rattle.relief.specs.Heights.{levelOf, heightOf};
 ghost use Rattle.words.specs.Area.{Area};
-ghost use Rattle.runfile.specs.Layout.{signedOf, bitsOf, wordOf, bytesOf, recordOf, recordsOf};
+ghost use Rattle.layout.specs.Layout.{signedOf, bitsOf, wordOf, bytesOf, recordOf, recordsOf};
 ghost use Rattle.table.specs.Table.{Counted, recordsIn};
 ghost use Rattle.survey.specs.Answers.{Loaded};
 ghost use Rattle.suite.specs.Entry.{heightsOf, SuiteLists};

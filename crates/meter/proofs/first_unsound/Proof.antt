@@ -9,9 +9,9 @@ use lib.IntN.{ℤ}
 use lib.ListN.{length}
 use borrow.Author.Needs.{needs}
 use Rattle.record.specs.declared.Peak.{Peak}
-use Rattle.runfile.specs.Sound.{FirstUnsound}
-use Rattle.runfile.specs.Steps.{Scans, scannedOf}
-use Rattle.runfile.proofs.Sounding.{Scanned, scanned-start, scanned-step, scanned-done}
+use Rattle.layout.specs.Sound.{FirstUnsound}
+use Rattle.layout.specs.Steps.{Scans, scannedOf}
+use Rattle.layout.proofs.Sounding.{Scanned, scanned-start, scanned-step, scanned-done}
 use Rattle.meter.specs.Metered.{peakOf, peaksOf}
 use Rattle.meter.proofs.Peaks.{peaks-length, peaks-at}
 use Rattle.meter.proofs.first_unsound.Statement.{statement}

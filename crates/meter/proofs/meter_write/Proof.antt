@@ -7,7 +7,7 @@ use lib.ListN.{length}
 use mir.Syntax.{w64}
 use mir.ValLaws.{toZ-ofZ}
 use borrow.Author.Needs.{needs}
-use Rattle.runfile.specs.Steps.{laid}
+use Rattle.layout.specs.Steps.{laid}
 use Rattle.meter.specs.Metered.{peaksOf}
 use Rattle.meter.proofs.Writing.{row-few, row-puttable, row-written}
 use Rattle.meter.proofs.meter_write.Statement.{statement}

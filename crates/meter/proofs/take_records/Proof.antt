@@ -5,7 +5,7 @@ use mathlib.Core.Path.{refl}
 use Prim.Native.Nat.{ℕ, _-_}
 use native.Mathlib.Omega.{arith}
 use denote.Ref.{now}
-use Rattle.runfile.specs.Layout.{recordIn, recordsIn}
+use Rattle.layout.specs.Layout.{recordIn, recordsIn}
 use Rattle.suite.proofs.Putting.{Grows, Puts, puts-start, puts-length, puts-step, puts-done}
 use Rattle.meter.proofs.take_records.Statement.{statement}
 use Rattle.meter.proofs.take_records.Tie as tie

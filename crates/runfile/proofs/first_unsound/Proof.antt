@@ -60,18 +60,18 @@ use Rattle.record.proofs.Peak as T
 use Rattle.record.proofs.Peak.Laws as T′
 use Rattle.relief.specs.Heights.{BLANK}
 use Rattle.record.specs.Records.{withoutKey}
-use Rattle.runfile.specs.Sound.{FirstUnsound, recordAt}
-use Rattle.runfile.specs.Steps.{Scans, scannedOf}
+use Rattle.layout.specs.Sound.{FirstUnsound, recordAt}
+use Rattle.layout.specs.Steps.{Scans, scannedOf}
 use Rattle.table.proofs.Locals.{localAt, copied, lands-number, release}
-use Rattle.runfile.proofs.Sounding.{Scanned, scanned-start, scanned-step, scanned-done}
-use Rattle.runfile.proofs.scan as scan
-use Rattle.runfile.proofs.scan.Symbol as scan-def
-use Rattle.runfile.proofs.scan.Symbol.{name as #runfile·scan}
-use Rattle.runfile.proofs.scan.Met as scan-thm
-use Rattle.runfile.proofs.scanned as scanned
-use Rattle.runfile.proofs.scanned.Symbol as scanned-def
-use Rattle.runfile.proofs.scanned.Symbol.{name as #runfile·scanned}
-use Rattle.runfile.proofs.scanned.Met as scanned-thm
+use Rattle.layout.proofs.Sounding.{Scanned, scanned-start, scanned-step, scanned-done}
+use Rattle.layout.proofs.scan as scan
+use Rattle.layout.proofs.scan.Symbol as scan-def
+use Rattle.layout.proofs.scan.Symbol.{name as #layout·scan}
+use Rattle.layout.proofs.scan.Met as scan-thm
+use Rattle.layout.proofs.scanned as scanned
+use Rattle.layout.proofs.scanned.Symbol as scanned-def
+use Rattle.layout.proofs.scanned.Symbol.{name as #layout·scanned}
+use Rattle.layout.proofs.scanned.Met as scanned-thm
 use Rattle.runfile.proofs.first_unsound.Key.{name as #runfile·first-unsound}
 use Rattle.runfile.proofs.first_unsound as unsound
 use Rattle.runfile.proofs.first_unsound.Statement as stated
@@ -234,8 +234,8 @@ module _ {M : Type 1} (𝓤 : URA M) (H : Heap 𝓤) (A : Atoms 𝓤) (W : Given
   abbrev none : Peak
   none = withoutKey 0 BLANK
 
-  module _ (𝓣 : Tables 𝓤 H) (known-scan : Triple 𝓤 (𝓣 .C #runfile·scan) (ScanC 𝓤 H A mem run))
-      (known-scanned : Triple 𝓤 (𝓣 .C #runfile·scanned) (ScannedC 𝓤 H A mem run))
+  module _ (𝓣 : Tables 𝓤 H) (known-scan : Triple 𝓤 (𝓣 .C #layout·scan) (ScanC 𝓤 H A mem run))
+      (known-scanned : Triple 𝓤 (𝓣 .C #layout·scanned) (ScannedC 𝓤 H A mem run))
       (l₀ l₁ l₂ l₃ l₄ l₅ l₆ l₇ l₈ l₉ : ℕ) where
     abbrev C : Calls 𝓤 H
     C = 𝓣 .C
@@ -369,8 +369,8 @@ module _ {M : Type 1} (𝓤 : URA M) (H : Heap 𝓤) (A : Atoms 𝓤) (W : Given
     ]
 
   -- the MIR up to the loop
-  walk : (𝓣 : Tables 𝓤 H) (known-scan : Triple 𝓤 (𝓣 .C #runfile·scan) (ScanC 𝓤 H A mem run))
-      (known-scanned : Triple 𝓤 (𝓣 .C #runfile·scanned) (ScannedC 𝓤 H A mem run))
+  walk : (𝓣 : Tables 𝓤 H) (known-scan : Triple 𝓤 (𝓣 .C #layout·scan) (ScanC 𝓤 H A mem run))
+      (known-scanned : Triple 𝓤 (𝓣 .C #layout·scanned) (ScannedC 𝓤 H A mem run))
       → ent 𝓤 (onEntry 𝓤 H A unsound.signature (κ₀, (κ₁, tt)) (q₀, (q₁, tt)) a vals)
       (WpFn 𝓤 H (𝓣 .C) (𝓣 .Λ) code.function (hv ∷ pv ∷ []) Post)
   walk 𝓣 known-scan known-scanned =
@@ -398,8 +398,8 @@ module _ {M : Type 1} (𝓤 : URA M) (H : Heap 𝓤) (A : Atoms 𝓤) (W : Given
       (record { i = 0; state = 0; within = zero-le; fits = lit< tt; scanned = scanned-start (h .now) ys })))))))))))
 
 module _ {M : Type 1} (𝓤 : URA M) (H : Heap 𝓤) (A : Atoms 𝓤) (W : Given 𝓤 H A) (mem : Memory → SProp 𝓤)
-    (run : Routine → Fun 𝓤) (𝓣 : Tables 𝓤 H) (known-scan : Triple 𝓤 (𝓣 .C #runfile·scan) (ScanC 𝓤 H A mem run))
-    (known-scanned : Triple 𝓤 (𝓣 .C #runfile·scanned) (ScannedC 𝓤 H A mem run)) where
+    (run : Routine → Fun 𝓤) (𝓣 : Tables 𝓤 H) (known-scan : Triple 𝓤 (𝓣 .C #layout·scan) (ScanC 𝓤 H A mem run))
+    (known-scanned : Triple 𝓤 (𝓣 .C #layout·scanned) (ScannedC 𝓤 H A mem run)) where
   unsound-walks :
       Walks 𝓤 H A unsound.ended stayed (WpFn 𝓤 H (𝓣 .C) (𝓣 .Λ) code.function) (unsound.clauses 𝓤 H A mem run)
   unsound-walks =
@@ -426,7 +426,7 @@ first-unsound-spec 𝓤 H 𝓜 𝓖 𝓡 =
     (tables 𝓤 H 𝓜 𝓡 code.env .C) (tables 𝓤 H 𝓜 𝓡 code.env .Λ) #runfile·first-unsound code.function
     (code.unfolded 𝓤 H 𝓜 𝓡)
     (unsound-meets 𝓤 H (𝓖 .A) (givenOf 𝓤 H 𝓜 𝓖) (𝓜 .mem) (𝓡 .run) (tablesOf 𝓤 H 𝓜 (tables 𝓤 H 𝓜 𝓡 code.env))
-    (cited 𝓤 H (ScanC 𝓤 H (𝓖 .A) (𝓜 .mem) (𝓡 .run)) 𝓜 𝓡 code.env #runfile·scan scan-def.routine
-    code.calls-runfile·scan (scan-thm.met 𝓤 H 𝓜 𝓖 𝓡))
-    (cited 𝓤 H (ScannedC 𝓤 H (𝓖 .A) (𝓜 .mem) (𝓡 .run)) 𝓜 𝓡 code.env #runfile·scanned scanned-def.routine
-    code.calls-runfile·scanned (scanned-thm.met 𝓤 H 𝓜 𝓖 𝓡)))
+    (cited 𝓤 H (ScanC 𝓤 H (𝓖 .A) (𝓜 .mem) (𝓡 .run)) 𝓜 𝓡 code.env #layout·scan scan-def.routine
+    code.calls-layout·scan (scan-thm.met 𝓤 H 𝓜 𝓖 𝓡))
+    (cited 𝓤 H (ScannedC 𝓤 H (𝓖 .A) (𝓜 .mem) (𝓡 .run)) 𝓜 𝓡 code.env #layout·scanned scanned-def.routine
+    code.calls-layout·scanned (scanned-thm.met 𝓤 H 𝓜 𝓖 𝓡)))

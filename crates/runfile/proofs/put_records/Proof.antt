@@ -64,16 +64,16 @@ use Rattle.record.proofs.Peak as T
 use Rattle.record.proofs.Peak.Laws as T′
 use Rattle.relief.specs.Heights.{BLANK}
 use Rattle.record.specs.Records.{withoutKey}
-use Rattle.runfile.specs.Layout.{bytesOf, recordOf, totalOf}
-use Rattle.runfile.specs.Sound.{recordAt}
-use Rattle.runfile.specs.Steps.{over, Puttable, laid}
+use Rattle.layout.specs.Layout.{bytesOf, recordOf, totalOf}
+use Rattle.layout.specs.Sound.{recordAt}
+use Rattle.layout.specs.Steps.{over, Puttable, laid}
 use Rattle.table.proofs.Again.{LentMut, lends-again, comes-back}
 use Rattle.table.proofs.Locals.{localAt, copied, release}
-use Rattle.runfile.proofs.Pasting.{laid-start, laid-length, laid-step}
-use Rattle.runfile.proofs.put_record as put-one
-use Rattle.runfile.proofs.put_record.Symbol as put-one-def
-use Rattle.runfile.proofs.put_record.Symbol.{name as #runfile·put-record}
-use Rattle.runfile.proofs.put_record.Met as put-one-thm
+use Rattle.layout.proofs.Pasting.{laid-start, laid-length, laid-step}
+use Rattle.layout.proofs.put_record as put-one
+use Rattle.layout.proofs.put_record.Symbol as put-one-def
+use Rattle.layout.proofs.put_record.Symbol.{name as #layout·put-record}
+use Rattle.layout.proofs.put_record.Met as put-one-thm
 use Rattle.runfile.proofs.put_records.Key.{name as #runfile·put-records}
 use Rattle.runfile.proofs.put_records as put
 use Rattle.runfile.proofs.put_records.Statement as stated
@@ -263,7 +263,7 @@ module _ {M : Type 1} (𝓤 : URA M) (H : Heap 𝓤) (A : Atoms 𝓤) (W : Given
     unfolding recordAt
     next-is = laid-step ys cells ps (i .0) (omega (arith, within)) (omega (arith, enough)) within
 
-  module _ (𝓣 : Tables 𝓤 H) (known : Triple 𝓤 (𝓣 .C #runfile·put-record) (PutOne 𝓤 H A mem run))
+  module _ (𝓣 : Tables 𝓤 H) (known : Triple 𝓤 (𝓣 .C #layout·put-record) (PutOne 𝓤 H A mem run))
       (l₀ l₁ l₂ l₃ l₄ l₅ l₆ l₇ l₈ l₉ l₁₀ l₁₁ l₁₂ : ℕ) where
     abbrev C : Calls 𝓤 H
     C = 𝓣 .C
@@ -399,7 +399,7 @@ module _ {M : Type 1} (𝓤 : URA M) (H : Heap 𝓤) (A : Atoms 𝓤) (W : Given
     ]
 
   -- the MIR up to the loop
-  walk : (𝓣 : Tables 𝓤 H) (known : Triple 𝓤 (𝓣 .C #runfile·put-record) (PutOne 𝓤 H A mem run))
+  walk : (𝓣 : Tables 𝓤 H) (known : Triple 𝓤 (𝓣 .C #layout·put-record) (PutOne 𝓤 H A mem run))
       → ent 𝓤 (onEntry 𝓤 H A put.signature (κ₀, (κ₁, tt)) (q₀, (q₁, tt)) a vals)
       (WpFn 𝓤 H (𝓣 .C) (𝓣 .Λ) code.function (wv ∷ vint w64 cells ∷ pv ∷ vint w64 count ∷ []) Post)
   walk 𝓣 known =
@@ -428,7 +428,7 @@ module _ {M : Type 1} (𝓤 : URA M) (H : Heap 𝓤) (A : Atoms 𝓤) (W : Given
 
 module _ {M : Type 1} (𝓤 : URA M) (H : Heap 𝓤) (A : Atoms 𝓤) (W : Given 𝓤 H A) (mem : Memory → SProp 𝓤)
     (run : Routine → Fun 𝓤) (𝓣 : Tables 𝓤 H)
-    (known : Triple 𝓤 (𝓣 .C #runfile·put-record) (PutOne 𝓤 H A mem run)) where
+    (known : Triple 𝓤 (𝓣 .C #layout·put-record) (PutOne 𝓤 H A mem run)) where
   put-walks : Walks 𝓤 H A put.ended stayed (WpFn 𝓤 H (𝓣 .C) (𝓣 .Λ) code.function) (put.clauses 𝓤 H A mem run)
   put-walks =
       walked 𝓤 H A put.ended stayed (put.clauses 𝓤 H A mem run) (WpFn 𝓤 H (𝓣 .C) (𝓣 .Λ) code.function)
@@ -464,5 +464,5 @@ put-records-spec 𝓤 H 𝓜 𝓖 𝓡 =
     (tables 𝓤 H 𝓜 𝓡 code.env .C) (tables 𝓤 H 𝓜 𝓡 code.env .Λ) #runfile·put-records code.function
     (code.unfolded 𝓤 H 𝓜 𝓡)
     (put-meets 𝓤 H (𝓖 .A) (givenOf 𝓤 H 𝓜 𝓖) (𝓜 .mem) (𝓡 .run) (tablesOf 𝓤 H 𝓜 (tables 𝓤 H 𝓜 𝓡 code.env))
-    (cited 𝓤 H (PutOne 𝓤 H (𝓖 .A) (𝓜 .mem) (𝓡 .run)) 𝓜 𝓡 code.env #runfile·put-record put-one-def.routine
-    code.calls-runfile·put-record (put-one-thm.met 𝓤 H 𝓜 𝓖 𝓡)))
+    (cited 𝓤 H (PutOne 𝓤 H (𝓖 .A) (𝓜 .mem) (𝓡 .run)) 𝓜 𝓡 code.env #layout·put-record put-one-def.routine
+    code.calls-layout·put-record (put-one-thm.met 𝓤 H 𝓜 𝓖 𝓡)))

@@ -47,26 +47,26 @@ use denote.Triple.Walked.{Walks, ends-at, walked, walk-meets}
 use denote.Exit.{yes as kept}
 use Rattle.record.specs.declared.Peak.{Peak}
 use Rattle.record.proofs.Peak as T
-use Rattle.runfile.specs.declared.ReadBack.{ReadBack}
-use Rattle.runfile.specs.declared.ReadBack.the-variants.{Run, Refused}
-use Rattle.runfile.specs.Layout.{peaksIn, cellsIn, recordsIn}
-use Rattle.runfile.specs.Reading.{Judges, lentOf}
-use Rattle.runfile.specs.Steps.{GridTaken, Takable, cellsToTake, recordsToTake}
+use Rattle.layout.specs.declared.ReadBack.{ReadBack}
+use Rattle.layout.specs.declared.ReadBack.the-variants.{Run, Refused}
+use Rattle.layout.specs.Layout.{peaksIn, cellsIn, recordsIn}
+use Rattle.layout.specs.Reading.{Judges, lentOf}
+use Rattle.layout.specs.Steps.{GridTaken, Takable, cellsToTake, recordsToTake}
 use Rattle.runfile.proofs.CallsRead.{CellsToTake, RecordsToTake, calls-cells, calls-records}
 use Rattle.table.proofs.Locals.{localAt, copied, release}
-use Rattle.runfile.proofs.Reading.{read-readable, read-same}
-use Rattle.runfile.proofs.ReadBack as S
-use Rattle.runfile.proofs.ReadBack.Laws as S′
-use Rattle.runfile.proofs.take_grid as grid
-use Rattle.runfile.proofs.take_grid.Symbol as grid-def
-use Rattle.runfile.proofs.take_grid.Symbol.{name as #runfile·take-grid}
-use Rattle.runfile.proofs.take_grid.Met as grid-thm
-use Rattle.runfile.proofs.cells_to_take.Symbol as cells-of-def
-use Rattle.runfile.proofs.cells_to_take.Symbol.{name as #runfile·cells-to-take}
-use Rattle.runfile.proofs.cells_to_take.Met as cells-of-thm
-use Rattle.runfile.proofs.records_to_take.Symbol as count-of-def
-use Rattle.runfile.proofs.records_to_take.Symbol.{name as #runfile·records-to-take}
-use Rattle.runfile.proofs.records_to_take.Met as count-of-thm
+use Rattle.layout.proofs.Reading.{read-readable, read-same}
+use Rattle.layout.proofs.ReadBack as S
+use Rattle.layout.proofs.ReadBack.Laws as S′
+use Rattle.layout.proofs.take_grid as grid
+use Rattle.layout.proofs.take_grid.Symbol as grid-def
+use Rattle.layout.proofs.take_grid.Symbol.{name as #layout·take-grid}
+use Rattle.layout.proofs.take_grid.Met as grid-thm
+use Rattle.layout.proofs.cells_to_take.Symbol as cells-of-def
+use Rattle.layout.proofs.cells_to_take.Symbol.{name as #layout·cells-to-take}
+use Rattle.layout.proofs.cells_to_take.Met as cells-of-thm
+use Rattle.layout.proofs.records_to_take.Symbol as count-of-def
+use Rattle.layout.proofs.records_to_take.Symbol.{name as #layout·records-to-take}
+use Rattle.layout.proofs.records_to_take.Met as count-of-thm
 use Rattle.runfile.proofs.take_records as take
 use Rattle.runfile.proofs.take_records.Symbol as take-def
 use Rattle.runfile.proofs.take_records.Symbol.{name as #runfile·take-records}
@@ -271,9 +271,9 @@ module _ {M : Type 1} (𝓤 : URA M) (H : Heap 𝓤) (A : Atoms 𝓤) (W : Given
       owned ! S.the-row (Is S.the-row) (EL.makes S.the-type S′.the-plain 𝓤 H A) r _ is $ move ! (1 ∷ 0 ∷ []) $ done !
 
   module _ (C : Calls 𝓤 H) (Λ : Loops 𝓤 H) (fm : FmC 𝓤 H (W .laws) C)
-      (known-grid : Triple 𝓤 (C #runfile·take-grid) (TakeGrid 𝓤 H A mem run))
-      (known-cells : Triple 𝓤 (C #runfile·cells-to-take) (CellsToTake 𝓤 H A mem run))
-      (known-count : Triple 𝓤 (C #runfile·records-to-take) (RecordsToTake 𝓤 H A mem run))
+      (known-grid : Triple 𝓤 (C #layout·take-grid) (TakeGrid 𝓤 H A mem run))
+      (known-cells : Triple 𝓤 (C #layout·cells-to-take) (CellsToTake 𝓤 H A mem run))
+      (known-count : Triple 𝓤 (C #layout·records-to-take) (RecordsToTake 𝓤 H A mem run))
       (known-take : Triple 𝓤 (C #runfile·take-records) (TakeRecords 𝓤 H A mem run)) where
     walk : ent 𝓤 (onEntry 𝓤 H A read.signature (κ₀, (κ₁, (κ₂, tt))) (q₀, (q₁, (q₂, tt))) a vals)
         (WpFn 𝓤 H C Λ code.function (fv ∷ hv ∷ tv ∷ []) Post)
@@ -368,9 +368,9 @@ module _ {M : Type 1} (𝓤 : URA M) (H : Heap 𝓤) (A : Atoms 𝓤) (W : Given
         by ! (exits r u is zs left ts filled))))))))))))))))))))))))))
 
 module _ {M : Type 1} (𝓤 : URA M) (H : Heap 𝓤) (A : Atoms 𝓤) (W : Given 𝓤 H A) (mem : Memory → SProp 𝓤)
-    (run : Routine → Fun 𝓤) (𝓣 : Tables 𝓤 H) (known-grid : Triple 𝓤 (𝓣 .C #runfile·take-grid) (TakeGrid 𝓤 H A mem run))
-    (known-cells : Triple 𝓤 (𝓣 .C #runfile·cells-to-take) (CellsToTake 𝓤 H A mem run))
-    (known-count : Triple 𝓤 (𝓣 .C #runfile·records-to-take) (RecordsToTake 𝓤 H A mem run))
+    (run : Routine → Fun 𝓤) (𝓣 : Tables 𝓤 H) (known-grid : Triple 𝓤 (𝓣 .C #layout·take-grid) (TakeGrid 𝓤 H A mem run))
+    (known-cells : Triple 𝓤 (𝓣 .C #layout·cells-to-take) (CellsToTake 𝓤 H A mem run))
+    (known-count : Triple 𝓤 (𝓣 .C #layout·records-to-take) (RecordsToTake 𝓤 H A mem run))
     (known-take : Triple 𝓤 (𝓣 .C #runfile·take-records) (TakeRecords 𝓤 H A mem run)) where
   read-walks : Walks 𝓤 H A read.ended stayed (WpFn 𝓤 H (𝓣 .C) (𝓣 .Λ) code.function) (read.clauses 𝓤 H A mem run)
   read-walks =
@@ -400,11 +400,11 @@ read-spec 𝓤 H 𝓜 𝓖 𝓡 =
     entered 𝓤 H (tripleOf 𝓤 H (𝓖 .A) read.signature (read.spec 𝓤 H (𝓖 .A) (𝓜 .mem) (𝓡 .run)))
     (tables 𝓤 H 𝓜 𝓡 code.env .C) (tables 𝓤 H 𝓜 𝓡 code.env .Λ) #runfile·read code.function (code.unfolded 𝓤 H 𝓜 𝓡)
     (read-meets 𝓤 H (𝓖 .A) (givenOf 𝓤 H 𝓜 𝓖) (𝓜 .mem) (𝓡 .run) (tablesOf 𝓤 H 𝓜 (tables 𝓤 H 𝓜 𝓡 code.env))
-    (cited 𝓤 H (TakeGrid 𝓤 H (𝓖 .A) (𝓜 .mem) (𝓡 .run)) 𝓜 𝓡 code.env #runfile·take-grid grid-def.routine
-    code.calls-runfile·take-grid (grid-thm.met 𝓤 H 𝓜 𝓖 𝓡))
-    (cited 𝓤 H (CellsToTake 𝓤 H (𝓖 .A) (𝓜 .mem) (𝓡 .run)) 𝓜 𝓡 code.env #runfile·cells-to-take cells-of-def.routine
-    code.calls-runfile·cells-to-take (cells-of-thm.met 𝓤 H 𝓜 𝓖 𝓡))
-    (cited 𝓤 H (RecordsToTake 𝓤 H (𝓖 .A) (𝓜 .mem) (𝓡 .run)) 𝓜 𝓡 code.env #runfile·records-to-take
-    count-of-def.routine code.calls-runfile·records-to-take (count-of-thm.met 𝓤 H 𝓜 𝓖 𝓡))
+    (cited 𝓤 H (TakeGrid 𝓤 H (𝓖 .A) (𝓜 .mem) (𝓡 .run)) 𝓜 𝓡 code.env #layout·take-grid grid-def.routine
+    code.calls-layout·take-grid (grid-thm.met 𝓤 H 𝓜 𝓖 𝓡))
+    (cited 𝓤 H (CellsToTake 𝓤 H (𝓖 .A) (𝓜 .mem) (𝓡 .run)) 𝓜 𝓡 code.env #layout·cells-to-take cells-of-def.routine
+    code.calls-layout·cells-to-take (cells-of-thm.met 𝓤 H 𝓜 𝓖 𝓡))
+    (cited 𝓤 H (RecordsToTake 𝓤 H (𝓖 .A) (𝓜 .mem) (𝓡 .run)) 𝓜 𝓡 code.env #layout·records-to-take
+    count-of-def.routine code.calls-layout·records-to-take (count-of-thm.met 𝓤 H 𝓜 𝓖 𝓡))
     (cited 𝓤 H (TakeRecords 𝓤 H (𝓖 .A) (𝓜 .mem) (𝓡 .run)) 𝓜 𝓡 code.env #runfile·take-records take-def.routine
     code.calls-runfile·take-records (take-thm.met 𝓤 H 𝓜 𝓖 𝓡)))

@@ -61,14 +61,14 @@ use denote.Exit.{yes as kept}
 use Rattle.record.specs.declared.Peak.{Peak}
 use Rattle.record.proofs.Peak as T
 use Rattle.record.proofs.Peak.Laws as T′
-use Rattle.runfile.specs.Layout.{recordIn, totalOf}
-use Rattle.runfile.specs.Steps.{Takable, filled}
-use Rattle.runfile.proofs.Rows.{filled-start, filled-step, filled-length}
+use Rattle.layout.specs.Layout.{recordIn, totalOf}
+use Rattle.layout.specs.Steps.{Takable, filled}
+use Rattle.layout.proofs.Rows.{filled-start, filled-step, filled-length}
 use Rattle.table.proofs.Locals.{localAt, copied, release}
-use Rattle.runfile.proofs.record_in as record-in
-use Rattle.runfile.proofs.record_in.Symbol as record-in-def
-use Rattle.runfile.proofs.record_in.Symbol.{name as #runfile·record-in}
-use Rattle.runfile.proofs.record_in.Met as record-in-thm
+use Rattle.layout.proofs.record_in as record-in
+use Rattle.layout.proofs.record_in.Symbol as record-in-def
+use Rattle.layout.proofs.record_in.Symbol.{name as #layout·record-in}
+use Rattle.layout.proofs.record_in.Met as record-in-thm
 use Rattle.runfile.proofs.take_records.Key.{name as #runfile·take-records}
 use Rattle.runfile.proofs.take_records as take
 use Rattle.runfile.proofs.take_records.Statement as stated
@@ -214,7 +214,7 @@ module _ {M : Type 1} (𝓤 : URA M) (H : Heap 𝓤) (A : Atoms 𝓤) (W : Given
   within-at : (i : Upto) → i .0 < count → i .0 < length (at (i .0))
   within-at i less = subst (λ (m : ℕ). i .0 < m) (sym (at-length i)) (within (i .0) less)
 
-  module _ (𝓣 : Tables 𝓤 H) (known : Triple 𝓤 (𝓣 .C #runfile·record-in) (RecordIn 𝓤 H A mem run))
+  module _ (𝓣 : Tables 𝓤 H) (known : Triple 𝓤 (𝓣 .C #layout·record-in) (RecordIn 𝓤 H A mem run))
       (l₀ l₁ l₂ l₃ l₄ l₅ l₆ l₇ l₈ l₉ : ℕ) where
     abbrev C : Calls 𝓤 H
     C = 𝓣 .C
@@ -328,7 +328,7 @@ module _ {M : Type 1} (𝓤 : URA M) (H : Heap 𝓤) (A : Atoms 𝓤) (W : Given
     ]
 
   -- the MIR up to the loop: the borrow is opened once, before it
-  walk : (𝓣 : Tables 𝓤 H) (known : Triple 𝓤 (𝓣 .C #runfile·record-in) (RecordIn 𝓤 H A mem run))
+  walk : (𝓣 : Tables 𝓤 H) (known : Triple 𝓤 (𝓣 .C #layout·record-in) (RecordIn 𝓤 H A mem run))
       → ent 𝓤 (onEntry 𝓤 H A take.signature (κ, (κ′, tt)) (q, (q′, tt)) a vals)
       (WpFn 𝓤 H (𝓣 .C) (𝓣 .Λ) code.function (tv ∷ sv ∷ vint w64 n ∷ vint w64 count ∷ []) Post)
   walk 𝓣 known =
@@ -353,7 +353,7 @@ module _ {M : Type 1} (𝓤 : URA M) (H : Heap 𝓤) (A : Atoms 𝓤) (W : Given
       (turns 𝓣 known l₀ l₁ l₂ l₃ l₄ l₅ l₆ l₇ l₈ l₉) (0, zero-le)))))))))))
 
 module _ {M : Type 1} (𝓤 : URA M) (H : Heap 𝓤) (A : Atoms 𝓤) (W : Given 𝓤 H A) (mem : Memory → SProp 𝓤)
-    (run : Routine → Fun 𝓤) (𝓣 : Tables 𝓤 H) (known : Triple 𝓤 (𝓣 .C #runfile·record-in) (RecordIn 𝓤 H A mem run)) where
+    (run : Routine → Fun 𝓤) (𝓣 : Tables 𝓤 H) (known : Triple 𝓤 (𝓣 .C #layout·record-in) (RecordIn 𝓤 H A mem run)) where
   take-walks : Walks 𝓤 H A take.ended stayed (WpFn 𝓤 H (𝓣 .C) (𝓣 .Λ) code.function) (take.clauses 𝓤 H A mem run)
   take-walks =
       walked 𝓤 H A take.ended stayed (take.clauses 𝓤 H A mem run) (WpFn 𝓤 H (𝓣 .C) (𝓣 .Λ) code.function)
@@ -389,5 +389,5 @@ take-records-spec 𝓤 H 𝓜 𝓖 𝓡 =
     (tables 𝓤 H 𝓜 𝓡 code.env .C) (tables 𝓤 H 𝓜 𝓡 code.env .Λ) #runfile·take-records code.function
     (code.unfolded 𝓤 H 𝓜 𝓡)
     (take-meets 𝓤 H (𝓖 .A) (givenOf 𝓤 H 𝓜 𝓖) (𝓜 .mem) (𝓡 .run) (tablesOf 𝓤 H 𝓜 (tables 𝓤 H 𝓜 𝓡 code.env))
-    (cited 𝓤 H (RecordIn 𝓤 H (𝓖 .A) (𝓜 .mem) (𝓡 .run)) 𝓜 𝓡 code.env #runfile·record-in record-in-def.routine
-    code.calls-runfile·record-in (record-in-thm.met 𝓤 H 𝓜 𝓖 𝓡)))
+    (cited 𝓤 H (RecordIn 𝓤 H (𝓖 .A) (𝓜 .mem) (𝓡 .run)) 𝓜 𝓡 code.env #layout·record-in record-in-def.routine
+    code.calls-layout·record-in (record-in-thm.met 𝓤 H 𝓜 𝓖 𝓡)))

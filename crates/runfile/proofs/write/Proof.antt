@@ -49,27 +49,27 @@ use denote.Triple.Walked.{goes-gave-slice, Walks, ends-at, walked, walk-meets}
 use denote.Exit.{yes as kept}
 use Rattle.record.specs.declared.Peak.{Peak}
 use Rattle.record.proofs.Peak as T
-use Rattle.runfile.specs.declared.Written.{Written}
-use Rattle.runfile.specs.Sound.{FirstUnsound}
-use Rattle.runfile.specs.Steps.{GridPut, Puttable, laid, putOf}
+use Rattle.layout.specs.declared.Written.{Written}
+use Rattle.layout.specs.Sound.{FirstUnsound}
+use Rattle.layout.specs.Steps.{GridPut, Puttable, laid, putOf}
 use Rattle.table.proofs.Again.{LentMut, lends-again, comes-back}
 use Rattle.table.proofs.Locals.{localAt, copied, lands-number, release}
-use Rattle.runfile.proofs.Laying.{grid-puttable, grid-written}
-use Rattle.runfile.proofs.Sounding.{first-few}
-use Rattle.runfile.proofs.Written as S
-use Rattle.runfile.proofs.Written.Laws as S′
+use Rattle.layout.proofs.Laying.{grid-puttable, grid-written}
+use Rattle.layout.proofs.Sounding.{first-few}
+use Rattle.layout.proofs.Written as S
+use Rattle.layout.proofs.Written.Laws as S′
 use Rattle.runfile.proofs.first_unsound as unsound
 use Rattle.runfile.proofs.first_unsound.Symbol as unsound-def
 use Rattle.runfile.proofs.first_unsound.Symbol.{name as #runfile·first-unsound}
 use Rattle.runfile.proofs.first_unsound.Met as unsound-thm
-use Rattle.runfile.proofs.put_grid as grid
-use Rattle.runfile.proofs.put_grid.Symbol as grid-def
-use Rattle.runfile.proofs.put_grid.Symbol.{name as #runfile·put-grid}
-use Rattle.runfile.proofs.put_grid.Met as grid-thm
-use Rattle.runfile.proofs.records_to_put as count-of
-use Rattle.runfile.proofs.records_to_put.Symbol as count-of-def
-use Rattle.runfile.proofs.records_to_put.Symbol.{name as #runfile·records-to-put}
-use Rattle.runfile.proofs.records_to_put.Met as count-of-thm
+use Rattle.layout.proofs.put_grid as grid
+use Rattle.layout.proofs.put_grid.Symbol as grid-def
+use Rattle.layout.proofs.put_grid.Symbol.{name as #layout·put-grid}
+use Rattle.layout.proofs.put_grid.Met as grid-thm
+use Rattle.layout.proofs.records_to_put as count-of
+use Rattle.layout.proofs.records_to_put.Symbol as count-of-def
+use Rattle.layout.proofs.records_to_put.Symbol.{name as #layout·records-to-put}
+use Rattle.layout.proofs.records_to_put.Met as count-of-thm
 use Rattle.runfile.proofs.put_records as put
 use Rattle.runfile.proofs.put_records.Symbol as put-def
 use Rattle.runfile.proofs.put_records.Symbol.{name as #runfile·put-records}
@@ -315,8 +315,8 @@ module _ {M : Type 1} (𝓤 : URA M) (H : Heap 𝓤) (A : Atoms 𝓤) (W : Given
 
   module _ (C : Calls 𝓤 H) (Λ : Loops 𝓤 H) (fm : FmC 𝓤 H (W .laws) C)
       (known-first : Triple 𝓤 (C #runfile·first-unsound) (First 𝓤 H A mem run))
-      (known-grid : Triple 𝓤 (C #runfile·put-grid) (Grid 𝓤 H A mem run))
-      (known-count : Triple 𝓤 (C #runfile·records-to-put) (Count 𝓤 H A mem run))
+      (known-grid : Triple 𝓤 (C #layout·put-grid) (Grid 𝓤 H A mem run))
+      (known-count : Triple 𝓤 (C #layout·records-to-put) (Count 𝓤 H A mem run))
       (known-put : Triple 𝓤 (C #runfile·put-records) (Put 𝓤 H A mem run)) where
     walk : ent 𝓤 (onEntry 𝓤 H A write.signature (κ₀, (κ₁, (κ₂, tt))) (q₀, (q₁, (q₂, tt))) a vals)
         (WpFn 𝓤 H C Λ code.function (vint w32 rows ∷ hv ∷ pv ∷ wv ∷ []) Post)
@@ -448,8 +448,8 @@ module _ {M : Type 1} (𝓤 : URA M) (H : Heap 𝓤) (A : Atoms 𝓤) (W : Given
 module _ {M : Type 1} (𝓤 : URA M) (H : Heap 𝓤) (A : Atoms 𝓤) (W : Given 𝓤 H A) (mem : Memory → SProp 𝓤)
     (run : Routine → Fun 𝓤) (𝓣 : Tables 𝓤 H)
     (known-first : Triple 𝓤 (𝓣 .C #runfile·first-unsound) (First 𝓤 H A mem run))
-    (known-grid : Triple 𝓤 (𝓣 .C #runfile·put-grid) (Grid 𝓤 H A mem run))
-    (known-count : Triple 𝓤 (𝓣 .C #runfile·records-to-put) (Count 𝓤 H A mem run))
+    (known-grid : Triple 𝓤 (𝓣 .C #layout·put-grid) (Grid 𝓤 H A mem run))
+    (known-count : Triple 𝓤 (𝓣 .C #layout·records-to-put) (Count 𝓤 H A mem run))
     (known-put : Triple 𝓤 (𝓣 .C #runfile·put-records) (Put 𝓤 H A mem run)) where
   write-walks : Walks 𝓤 H A write.ended stayed (WpFn 𝓤 H (𝓣 .C) (𝓣 .Λ) code.function) (write.clauses 𝓤 H A mem run)
   write-walks =
@@ -491,9 +491,9 @@ write-spec 𝓤 H 𝓜 𝓖 𝓡 =
     (write-meets 𝓤 H (𝓖 .A) (givenOf 𝓤 H 𝓜 𝓖) (𝓜 .mem) (𝓡 .run) (tablesOf 𝓤 H 𝓜 (tables 𝓤 H 𝓜 𝓡 code.env))
     (cited 𝓤 H (First 𝓤 H (𝓖 .A) (𝓜 .mem) (𝓡 .run)) 𝓜 𝓡 code.env #runfile·first-unsound unsound-def.routine
     code.calls-runfile·first-unsound (unsound-thm.met 𝓤 H 𝓜 𝓖 𝓡))
-    (cited 𝓤 H (Grid 𝓤 H (𝓖 .A) (𝓜 .mem) (𝓡 .run)) 𝓜 𝓡 code.env #runfile·put-grid grid-def.routine
-    code.calls-runfile·put-grid (grid-thm.met 𝓤 H 𝓜 𝓖 𝓡))
-    (cited 𝓤 H (Count 𝓤 H (𝓖 .A) (𝓜 .mem) (𝓡 .run)) 𝓜 𝓡 code.env #runfile·records-to-put count-of-def.routine
-    code.calls-runfile·records-to-put (count-of-thm.met 𝓤 H 𝓜 𝓖 𝓡))
+    (cited 𝓤 H (Grid 𝓤 H (𝓖 .A) (𝓜 .mem) (𝓡 .run)) 𝓜 𝓡 code.env #layout·put-grid grid-def.routine
+    code.calls-layout·put-grid (grid-thm.met 𝓤 H 𝓜 𝓖 𝓡))
+    (cited 𝓤 H (Count 𝓤 H (𝓖 .A) (𝓜 .mem) (𝓡 .run)) 𝓜 𝓡 code.env #layout·records-to-put count-of-def.routine
+    code.calls-layout·records-to-put (count-of-thm.met 𝓤 H 𝓜 𝓖 𝓡))
     (cited 𝓤 H (Put 𝓤 H (𝓖 .A) (𝓜 .mem) (𝓡 .run)) 𝓜 𝓡 code.env #runfile·put-records put-def.routine
     code.calls-runfile·put-records (put-thm.met 𝓤 H 𝓜 𝓖 𝓡)))

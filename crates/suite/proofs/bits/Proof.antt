@@ -6,7 +6,7 @@ use borrow.Author.Needs.{needs}
 use mir.Syntax.{w32}
 use mir.ValLaws.{toZ-ofZ}
 use Rattle.relief.specs.Heights.{levelOf, heightOf}
-use Rattle.runfile.specs.Layout.{bitsOf}
+use Rattle.layout.specs.Layout.{bitsOf}
 use Rattle.suite.proofs.Heights.{level-height}
 use Rattle.suite.proofs.bits.Statement.{statement}
 use Rattle.suite.proofs.bits.Tie as tie

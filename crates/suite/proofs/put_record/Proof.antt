@@ -5,7 +5,7 @@ use denote.Ref.{now}
 use mir.Syntax.{w32}
 use mir.ValLaws.{toZ-ofZ}
 use borrow.Author.Needs.{needs}
-use Rattle.runfile.specs.Layout.{bitsOf}
+use Rattle.layout.specs.Layout.{bitsOf}
 use Rattle.suite.proofs.Putting.{record-put}
 use Rattle.suite.proofs.put_record.Statement.{statement}
 use Rattle.suite.proofs.put_record.Tie as tie

@@ -1,0 +1,181 @@
+-- Laws of bytes laid over others: the one file that unfolds `over` and, with proofs/write, `laid`.
+--     over-nil, over-front, over-length    no numbers change nothing; at the front; the length stays
+--     over-over                            bytes laid behind those just laid are one row of bytes
+--     byte-of-word                         a byte is a digit of the number that it is part of
+--     over-word                            a number stored at a place of four bytes lays its bytes over
+--     over-next                            numbers laid one after the other are a row of numbers
+--     laid-start, laid-step, laid-length   records laid one after the other
+-- A stored number agrees with its bytes laid over at each byte, by the digits. Assumes nothing.
+use mathlib.Core.List.{List, [], _∷_, _++_, append-assoc, append-nil, flatMap}
+use mathlib.Core.Path.{_≡_, sym, ap, _∙_}
+use Prim.Native.Nat.{ℕ, zero, suc, _+_, _-_, _*_, _/_, _%_, _≤_, _<_}
+use native.Mathlib.Decide.{decLt, ℕ-discrete}
+use native.Mathlib.Nat.{add-zero}
+use native.Mathlib.Numerals.{add-one}
+use native.Mathlib.Omega.{arith}
+use lib.ListN.{length, getD, take, drop, length-append, length-drop, take-append-drop, List·getD-append}
+use lib.Seq.{take-at, drop-drop, drop-append-add, getD-append-add, getD-take, getD-drop, ext-getD, length-take-le}
+use lib.Seq.{take-suc}
+use Rattle.words.specs.Words.{wordAt, Stored}
+use Rattle.relief.specs.Heights.{BLANK}
+use Rattle.record.specs.declared.Peak.{Peak}
+use Rattle.record.specs.Records.{withoutKey}
+use Rattle.layout.specs.Layout.{wordOf, bytesOf, recordOf, recordsOf, totalOf}
+use Rattle.layout.specs.Sound.{recordAt}
+use Rattle.layout.specs.Steps.{over, laid}
+use Rattle.layout.proofs.Rows.{four-length, four-append, record-four, bytes-length, bytes-append}
+
+-- ---- laid over
+
+pub over-nil : (s : List ℕ) (at : ℕ) → s ≡ over s at (bytesOf [])
+unfolding over flatMap
+over-nil s at = rw (add-zero) (sym (take-append-drop at s))
+
+pub over-front : (s bs : List ℕ) → over s 0 bs ≡ bs ++ drop (length bs) s
+unfolding over
+over-front s bs = let e : 0 + length bs ≡ length bs = omega arith in ap (λ (n : ℕ). bs ++ drop n s) e
+
+module _ (s : List ℕ) (at : ℕ) (bs : List ℕ) (fits : at + length bs ≤ length s) where
+  head-length : length (take at s) ≡ at
+  head-length = length-take-le at s (omega arith)
+
+  pub over-length : length (over s at bs) ≡ length s
+  unfolding over
+  over-length = simp (length-append, length-drop) (omega (arith, head-length))
+
+  over-before : (k : ℕ) → k < at → getD (over s at bs) k 0 ≡ getD s k 0
+  unfolding over
+  over-before k h =
+      let l : k < length (take at s) = rw head-length h in
+      List·getD-append (take at s) (bs ++ drop (at + length bs) s) 0 k l ∙ getD-take at s k 0 h
+
+  over-in : (k : ℕ) → k < length bs → getD (over s at bs) (at + k) 0 ≡ getD bs k 0
+  unfolding over
+  over-in k h =
+      ap (λ (n : ℕ). getD (take at s ++ (bs ++ drop (at + length bs) s)) (n + k) 0) (sym head-length)
+      ∙ getD-append-add (take at s) (bs ++ drop (at + length bs) s) k 0
+      ∙ List·getD-append bs (drop (at + length bs) s) 0 k h
+
+  over-behind : (k : ℕ) → getD (over s at bs) (at + length bs + k) 0 ≡ getD s (at + length bs + k) 0
+  unfolding over
+  over-behind k =
+      let place : at + length bs + k ≡ length (take at s) + (length bs + k) = omega (arith, head-length) in
+      ap (λ (n : ℕ). getD (take at s ++ (bs ++ drop (at + length bs) s)) n 0) place
+      ∙ getD-append-add (take at s) (bs ++ drop (at + length bs) s) (length bs + k) 0
+      ∙ getD-append-add bs (drop (at + length bs) s) k 0
+      ∙ getD-drop (at + length bs) s k 0
+
+  pub over-over : (next : ℕ) (cs : List ℕ) → next ≡ at + length bs → over (over s at bs) next cs ≡ over s at (bs ++ cs)
+  unfolding over
+  over-over next cs e =
+      let front : take next (take at s ++ (bs ++ drop (at + length bs) s)) ≡ take at s ++ bs =
+      ap (take next) (sym (append-assoc (take at s) bs (drop (at + length bs) s)))
+      ∙ take-at (take at s ++ bs) (drop (at + length bs) s) next
+      (length-append (take at s) bs ∙ omega (arith, head-length)) in
+      let end : at + length bs + length cs ≡ at + length (bs ++ cs) = omega (arith, length-append bs cs) in
+      let back :
+      drop (next + length cs) (take at s ++ (bs ++ drop (at + length bs) s)) ≡ drop (at + length (bs ++ cs)) s =
+      ap (λ (l : List ℕ). drop (next + length cs) l) (sym (append-assoc (take at s) bs (drop (at + length bs) s)))
+      ∙ ap (λ (n : ℕ). drop (n + length cs) ((take at s ++ bs) ++ drop (at + length bs) s))
+      (e ∙ omega (arith, head-length, length-append (take at s) bs))
+      ∙ drop-append-add (take at s ++ bs) (drop (at + length bs) s) (length cs)
+      ∙ drop-drop (length cs) (at + length bs) s
+      ∙ ap (λ (n : ℕ). drop n s) end in
+      rw (front, back) (simp append-assoc)
+
+-- ---- a number stored
+
+pub byte-of-word :
+    (s : List ℕ) → ((k : ℕ) → getD s k 0 < 256) → (j r : ℕ) → r < 4 →
+    getD s (4 * j + r) 0 ≡ getD (wordOf (wordAt s j)) r 0
+unfolding wordAt wordOf
+byte-of-word s b j zero h = ap (λ (k : ℕ). getD s k 0) (add-zero (4 * j)) ∙ omega (arith, b (4 * j))
+byte-of-word s b j (suc zero) h = omega (arith, b (4 * j), b (4 * j + 1))
+byte-of-word s b j (suc (suc zero)) h = omega (arith, b (4 * j), b (4 * j + 1), b (4 * j + 2))
+byte-of-word s b j (suc (suc (suc zero))) h =
+    omega (arith, b (4 * j), b (4 * j + 1), b (4 * j + 2), b (4 * j + 3))
+byte-of-word s b j (suc (suc (suc (suc r)))) h = absurd (omega arith)
+
+module _ (s t : List ℕ) (bytes : (k : ℕ) → getD s k 0 < 256) (bytes′ : (k : ℕ) → getD t k 0 < 256)
+    (i v : ℕ) (fits : 4 * i + 4 ≤ length s) (stored : Stored s t i v) where
+  word-length : 4 * i + length (wordOf v) ≤ length s
+  unfolding wordOf
+  word-length = fits
+
+  over-word-at : (j r : ℕ) → r < 4 → Dec (j ≡ i) → getD t (4 * j + r) 0 ≡ getD (over s (4 * i) (wordOf v)) (4 * j + r) 0
+  unfolding wordOf
+  over-word-at j r h (yes e) =
+      let word : wordAt t j ≡ v = ap (wordAt t) e ∙ stored .here in
+      byte-of-word t bytes′ j r h ∙ ap (λ (w : ℕ). getD (wordOf w) r 0) word
+      ∙ sym (over-in s (4 * i) (wordOf v) fits r h)
+      ∙ ap (λ (k : ℕ). getD (over s (4 * i) (wordOf v)) (4 * k + r) 0) (sym e)
+  over-word-at j r h (no n) =
+      byte-of-word t bytes′ j r h ∙ ap (λ (w : ℕ). getD (wordOf w) r 0) (stored .there j n)
+      ∙ sym (byte-of-word s bytes j r h)
+      ∙ elim (decLt j i) [
+        | yes l ↦ sym (over-before s (4 * i) (wordOf v) fits (4 * j + r) (omega arith))
+        | no l ↦
+            let place : 4 * i + 4 + (4 * j + r - (4 * i + 4)) ≡ 4 * j + r = omega arith in
+            let e = over-behind s (4 * i) (wordOf v) fits (4 * j + r - (4 * i + 4)) in
+            sym (rw place at e)
+      ]
+
+  pub over-word : t ≡ over s (4 * i) (wordOf v)
+  over-word =
+      ext-getD 0 t (over s (4 * i) (wordOf v)) (stored .len ∙ sym (over-length s (4 * i) (wordOf v) word-length))
+      (λ k h.
+      let place : 4 * (k / 4) + k % 4 ≡ k = omega arith in
+      let e = over-word-at (k / 4) (k % 4) (omega arith) (ℕ-discrete (k / 4) i) in
+      rw place at e)
+
+-- ---- a row of numbers, laid one after the other
+
+pub over-next :
+    (s : List ℕ) {t u : List ℕ} (vs : List ℕ) {w : ℕ} (v at next : ℕ) → at + 4 * length vs ≤ length s →
+    t ≡ over s at (bytesOf vs) → next ≡ at + 4 * length vs → w ≡ v → u ≡ over t next (wordOf w) →
+    u ≡ over s at (bytesOf (vs ++ (v ∷ [])))
+unfolding flatMap
+over-next s {t} {u} vs {w} v at next fits e place same e′ =
+    let len = bytes-length vs in
+    let last : bytesOf (v ∷ []) ≡ wordOf v = append-nil (wordOf v) in
+    e′ ∙ ap (λ (l : List ℕ). over l next (wordOf w)) e
+    ∙ ap (λ (x : ℕ). over (over s at (bytesOf vs)) next (wordOf x)) same
+    ∙ over-over s at (bytesOf vs) (omega arith) next (wordOf v) (omega arith)
+    ∙ ap (λ (l : List ℕ). over s at (bytesOf vs ++ l)) (sym last)
+    ∙ ap (over s at) (sym (bytes-append vs (v ∷ [])))
+
+-- ---- a row of records
+
+module _ (s : List ℕ) (cells : ℕ) (ps : List Peak) where
+  pub laid-start : laid s cells ps 0 ≡ s
+  unfolding laid flatMap
+  laid-start = sym (over-nil s (24 + 4 * cells))
+
+  module _ (i : ℕ) (l : i ≤ length ps) (fits : 24 + 4 * cells + 16 * i ≤ length s) where
+    laid-bytes : length (bytesOf (recordsOf (take i ps))) ≡ 16 * i
+    laid-bytes =
+        omega (
+          arith,
+          bytes-length (recordsOf (take i ps)),
+          four-length recordOf record-four (take i ps),
+          length-take-le i ps l,
+        )
+
+    pub laid-length : length (laid s cells ps i) ≡ length s
+    unfolding laid
+    laid-length = over-length s (24 + 4 * cells) (bytesOf (recordsOf (take i ps))) (omega (arith, laid-bytes))
+
+    pub laid-step :
+        i < length ps →
+        over (laid s cells ps i) (totalOf cells i) (bytesOf (recordOf (recordAt ps i))) ≡ laid s cells ps (i + 1)
+    unfolding laid flatMap recordAt
+    laid-step h =
+        let old = recordsOf (take i ps) in
+        let p = recordAt ps i in
+        let one : recordsOf (p ∷ []) ≡ recordOf p = append-nil (recordOf p) in
+        let more : recordsOf (take (i + 1) ps) ≡ old ++ recordOf p =
+        rw (add-one i, take-suc ps i (withoutKey 0 BLANK) h)
+        (four-append recordOf record-four (take i ps) (p ∷ []) ∙ ap (λ (k : List ℕ). old ++ k) one) in
+        over-over s (24 + 4 * cells) (bytesOf old) (omega (arith, laid-bytes)) (totalOf cells i) (bytesOf (recordOf p))
+        (omega (arith, laid-bytes))
+        ∙ ap (over s (24 + 4 * cells)) (sym (bytes-append old (recordOf p)) ∙ ap bytesOf (sym more))
