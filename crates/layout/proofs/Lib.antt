@@ -6,3 +6,5 @@ pub mod Writing
 pub mod Reading
 pub mod Files
 pub mod Laying
+pub mod Bytes
+pub mod Putting

@@ -20,6 +20,7 @@ use lib.Dec.{ltb}
 use lib.IntN.{ℤ}
 use lib.ListN.{length, getD, take, drop}
 use Rattle.relief.specs.Heights.{BLANK}
+use Rattle.words.specs.Area.{pick}
 use Rattle.record.specs.declared.Peak.{Peak}
 use Rattle.layout.specs.declared.Written.{Written}
 use Rattle.layout.specs.declared.Written.the-variants as written
@@ -53,11 +54,6 @@ pub record Scans (heights : List ℤ) (state i : ℕ) (p : Peak) (r : ℕ) : Typ
   pub stopped : STOPPED ≤ state → r ≡ state
   pub sound : state < STOPPED → Sound heights state p → (r ≡ p .cell + 1) × (r < STOPPED)
   pub unsound : state < STOPPED → (Sound heights state p → ⊥) → r ≡ STOPPED + i
-
--- The number a where the test holds, else b.
-abbrev pub pick : Bool → ℕ → ℕ → ℕ
-pick true a b = a
-pick false a b = b
 
 abbrev pub scannedOf : ℕ → ℕ → ℕ
 scannedOf state n = pick (ltb state STOPPED) n (state - STOPPED)

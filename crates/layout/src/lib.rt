@@ -4,14 +4,15 @@ ghost use mathlib.Core.List.{_++_, map};
 ghost use mathlib.Core.Path.{_≡_};
 ghost use Prim.Native.Nat.{_+_, _*_, _<_, _≤_};
 ghost use lib.ListN.{length, getD, drop};
+ghost use lib.Seq.{sets};
 ghost use Rattle.relief.specs.Heights.{BLANK};
+ghost use Rattle.table.specs.Table.{Counted, recordsIn as recordsLeft};
 ghost use Rattle.layout.specs.Layout.{bitsOf, signedOf, wordOf, bytesOf, headerOf, recordOf, totalOf};
-ghost use Rattle.layout.specs.Layout.{heightsIn, recordIn, recordsIn};
+ghost use Rattle.layout.specs.Layout.{recordsOf, heightsIn, recordIn, recordsIn};
 ghost use Rattle.layout.specs.Sound.{Sound, FirstUnsound};
 ghost use Rattle.layout.specs.Writing.{writtenOf};
 ghost use Rattle.layout.specs.Reading.{Judges, miscounted};
-ghost use Rattle.layout.specs.Steps.{over, Tells, TellsSound, Few, GridPut, GridTaken, Takable};
-ghost use Rattle.layout.specs.Steps.{Scans, scannedOf, Puttable, laid, filled};
+ghost use Rattle.layout.specs.Steps.{over, Tells, TellsSound, Few, GridPut, GridTaken, Scans, scannedOf};
 ghost use Rattle.layout.specs.Steps.{putOf, cellsToTake, recordsToTake};
 use record::Cell;
 use record::Peak;
@@ -44,12 +45,6 @@ pub fn signed(bits: u32) -> i32
     record::height(std::num::wrapping_add_u32(bits, HALF))
 }
 
-fn index(v: u32) -> usize
-    ensures { λ r. ⌜ r ≡ v ⌝ }
-{
-    v as usize
-}
-
 fn narrow(v: usize) -> u32
     requires { ⌜ v < 4294967296 ⌝ }
     ensures { λ r. ⌜ r ≡ v ⌝ }
@@ -61,7 +56,7 @@ fn narrow(v: usize) -> u32
 pub fn cells_of(rows: u32, columns: u32) -> usize
     ensures { λ r. ⌜ r ≡ rows * columns ⌝ }
 {
-    index(rows) * index(columns)
+    words::index(rows) * words::index(columns)
 }
 
 // ---- soundness
@@ -70,7 +65,7 @@ pub fn cells_of(rows: u32, columns: u32) -> usize
 fn is_sound(cells: usize, least: usize, p: Peak, here: i32, there: i32) -> bool
     ensures { λ r. ⌜ TellsSound cells least p here there r ⌝ }
 {
-    let cell = index(p.cell);
+    let cell = words::index(p.cell);
     if cells <= cell {
         return false;
     }
@@ -95,7 +90,7 @@ fn is_sound(cells: usize, least: usize, p: Peak, here: i32, there: i32) -> bool
     if level <= key {
         return false;
     }
-    if cells <= index(pass) {
+    if cells <= words::index(pass) {
         return false;
     }
     record::level(there) == key
@@ -115,8 +110,8 @@ fn height_at(heights: &[i32], cell: usize) -> i32
 fn is_sound_at(heights: &[i32], least: usize, p: Peak) -> bool
     ensures { λ r. ⌜ Tells r (Sound (now (heights .entry)) least p) ⌝ }
 {
-    let here = height_at(heights, index(p.cell));
-    let there = height_at(heights, index(p.pass));
+    let here = height_at(heights, words::index(p.cell));
+    let there = height_at(heights, words::index(p.pass));
     is_sound(heights.len(), least, p, here, there)
 }
 
@@ -136,8 +131,8 @@ fn is_sound_in(file: &[u8], cells: usize, least: usize, p: Peak) -> bool
     requires { ⌜ 24 + 4 * cells ≤ length (now file) ⌝ }
     ensures { λ r. ⌜ Tells r (Sound (heightsIn (now (file .entry)) cells) least p) ⌝ }
 {
-    let here = height_in(file, cells, index(p.cell));
-    let there = height_in(file, cells, index(p.pass));
+    let here = height_in(file, cells, words::index(p.cell));
+    let there = height_in(file, cells, words::index(p.pass));
     is_sound(cells, least, p, here, there)
 }
 
@@ -158,7 +153,7 @@ pub fn record_in(file: &[u8], cells: usize, i: usize) -> Peak
 fn next_cell(p: Peak) -> usize
     ensures { λ r. ⌜ (r ≡ p .cell + 1) × (r ≤ 4294967296) ⌝ }
 {
-    index(p.cell) + 1
+    words::index(p.cell) + 1
 }
 
 // The index of the first unsound record of a file, their number if all are sound.
@@ -220,10 +215,10 @@ fn plan(rows: u32, cells: usize, n: usize, unsound: usize, room: usize) -> Writt
     if Cell::MAX_ROWS < rows {
         return Written::Refused(Refusal::Rows);
     }
-    if cells % index(rows) != 0 {
+    if cells % words::index(rows) != 0 {
         return Written::Refused(Refusal::Length);
     }
-    if index(Cell::MAX_CELLS) < cells {
+    if words::index(Cell::MAX_CELLS) < cells {
         return Written::Refused(Refusal::Cells);
     }
     if unsound < n {
@@ -252,7 +247,7 @@ fn put_header(room: &mut [u8], rows: u32, cells: usize, n: usize)
     requires { ⌜ (totalOf cells n ≤ length (now room)) × ((totalOf cells n < 4294967296) × (0 < rows)) ⌝ }
     ensures { λ r. ⌜ now (room .exit) ≡ over (now (room .entry)) 0 (bytesOf (headerOf rows cells n)) ⌝ }
 {
-    let columns = cells / index(rows);
+    let columns = cells / words::index(rows);
     let offset = 24 + 4 * cells;
     let total = offset + 16 * n;
     put_word(room, 0, rows);
@@ -324,10 +319,10 @@ fn is_miscounted(file: &[u8], cells: usize, n: usize) -> bool
         return true;
     }
     let offset = 24 + 4 * cells;
-    if index(words::get(file, 4)) != offset {
+    if words::index(words::get(file, 4)) != offset {
         return true;
     }
-    index(words::get(file, 5)) != offset + 16 * n
+    words::index(words::get(file, 5)) != offset + 16 * n
 }
 
 // The answer of `read`, for so many lent heights and table entries.
@@ -346,15 +341,15 @@ fn judge(file: &[u8], heights: usize, table: usize) -> ReadBack
     }
     let columns = words::get(file, 1);
     let cells = cells_of(rows, columns);
-    if index(Cell::MAX_CELLS) < cells {
+    if words::index(Cell::MAX_CELLS) < cells {
         return ReadBack::Refused(Refusal::Cells);
     }
     let peaks = words::get(file, 2);
-    let n = index(peaks);
+    let n = words::index(peaks);
     if is_miscounted(file, cells, n) {
         return ReadBack::Refused(Refusal::FileCounts);
     }
-    if file.len() != index(words::get(file, 5)) {
+    if file.len() != words::index(words::get(file, 5)) {
         return ReadBack::Refused(Refusal::FileLength);
     }
     let unsound = first_unsound_in(file, cells, n);
@@ -413,7 +408,7 @@ pub fn records_to_take(answer: ReadBack) -> usize
             rows: _,
             columns: _,
             peaks,
-        } => index(peaks),
+        } => words::index(peaks),
         ReadBack::Refused(_) => 0,
     }
 }
@@ -425,4 +420,38 @@ pub fn take_grid(file: &[u8], heights: &mut [i32], table: usize) -> ReadBack
     let answer = judge(file, heights.len(), table);
     take_heights(file, heights, cells_to_take(answer));
     answer
+}
+
+// ---- records as bytes, without a file around them
+
+// Puts a number at the i-th place. The table may end within a number, so its bytes are told and not its numbers.
+fn lay_word(table: &mut [u8], i: usize, v: u32)
+    requires { ⌜ 4 * i + 4 ≤ length (now table) ⌝ }
+    ensures { λ r. ⌜ now (table .exit) ≡ sets (now (table .entry)) (4 * i) (wordOf v) ⌝ }
+{
+    words::put(table, i, v);
+}
+
+// Puts the 16 bytes of a record at the i-th place.
+pub fn lay_record(table: &mut [u8], i: usize, peak: Peak)
+    requires { ⌜ 16 * i + 16 ≤ length (now table) ⌝ }
+    ensures { λ r. ⌜ now (table .exit) ≡ sets (now (table .entry)) (16 * i) (bytesOf (recordOf peak)) ⌝ }
+{
+    lay_word(table, 4 * i, peak.cell);
+    lay_word(table, 4 * i + 1, bits(peak.height));
+    lay_word(table, 4 * i + 2, bits(peak.key));
+    lay_word(table, 4 * i + 3, peak.pass);
+}
+
+// Puts the records that stand in the work area at the table's first places. Its other bytes stay as they were.
+pub fn lay_records(table: &mut [u8], work: &[u8], n: usize, count: usize)
+    requires { ⌜ Counted (now work) n count × (16 * count ≤ length (now table)) ⌝ }
+    ensures { λ r. ⌜ now (table .exit) ≡ bytesOf (recordsOf (recordsLeft (now (work .entry)) n count))
+        ++ drop (16 * count) (now (table .entry)) ⌝ }
+{
+    let mut i = 0;
+    while i < count {
+        lay_record(table, i, table::record_at(work, n, i));
+        i += 1;
+    }
 }

@@ -1,11 +1,10 @@
 -- The answers of the whole-grid call, and that its promise allows one answer and one row.
---     loaded-levels      the levels loaded are those of the heights
 --     flat-*             the promise of `flat` at each return; the list is there whatever is refused
 --     flat-fillable      what `flat` leaves may be filled into the row; after a refusal no record is
 --     flat-lists         the row that is filled so keeps the promise of the whole call
 --     list-unique        two answers that the promise allows are equal, and so are two rows
 -- Assumes nothing.
-use mathlib.Core.Path.{_≡_, refl, sym, _∙_, ap, ap₂, subst, fun-ext}
+use mathlib.Core.Path.{_≡_, refl, sym, _∙_, ap, ap₂, subst}
 use mathlib.Core.List.{List, _++_, map}
 use Prim.Native.Nat.{ℕ, _*_, _%_, _≤_, _<_}
 use native.Mathlib.Omega.{arith}
@@ -15,41 +14,32 @@ use borrow.Author.Tests.{eq-eqb, ne-eqb, lt-ltb, le-ltb}
 use Rattle.relief.specs.Heights.{levels}
 use Rattle.relief.specs.Peaks.{Entry, Listed, ListOf}
 use Rattle.relief.specs.Plane.{Plane}
-use Rattle.relief.proofs.Deciding.{split, le-or-lt}
 use Rattle.relief.proofs.Listing.{order-unique}
 use Rattle.relief.proofs.Surveying.{survey, survey-list}
 use Rattle.relief.proofs.Plane.{plane?}
-use Rattle.relief.proofs.Grids.{levels-end, plane-terrain}
+use Rattle.relief.proofs.Grids.{plane-terrain}
 use Rattle.record.specs.declared.Peak.{Peak}
 use Rattle.record.specs.declared.Refusal.{Refusal}
 use Rattle.record.specs.declared.Refusal.the-variants.{Rows, Length, Cells, Work, Table}
 use Rattle.record.specs.Records.{recordOf}
 use Rattle.words.specs.Area.{levelIn}
 use Rattle.sweep.specs.Taking.{cut}
-use Rattle.sweep.proofs.Work.{cut-below, cut-behind}
 use Rattle.table.specs.Table.{Counted, recordsIn, Fillable}
 use Rattle.table.proofs.Laws.{filled-start}
 use Rattle.survey.specs.Answers.{entriesIn, Loaded, Answered}
 use Rattle.survey.proofs.Recording.{places-record, places-length}
+use Rattle.survey.proofs.Marking.{loaded-levels}
 use Rattle.list.specs.declared.Listed as Answer
 use Rattle.list.specs.declared.Listed.the-variants.{Count, Refused}
 use Rattle.list.specs.Listing.{listAnswer, listTable, Lists, Flat, countIn, cellsIn}
 
 -- ---- the list
 
--- the levels loaded are those of the heights
-pub loaded-levels : {s t : List ℕ} {heights : List ℤ} → Loaded s t heights (length heights)
-    → cut (length heights) (levelIn t) ≡ levels heights
-loaded-levels {s} {t} {heights} h = fun-ext λ c.
-    split (le-or-lt (length heights) c)
-    (λ l. cut-behind (length heights) (levelIn t) c l ∙ sym (levels-end heights c l))
-    (λ l. cut-below (length heights) (levelIn t) c l ∙ h .levels-in c l)
-
 list-right : {rows T : ℕ} {heights : List ℤ} {s t left : List ℕ} {k : ℕ} → Loaded s t heights (length heights)
     → Answered t left (length heights) (Listed (Plane rows) (cut (length heights) (levelIn t)) T) k
     → ListOf (Plane rows) (levels heights) T (entriesIn left (length heights) k)
 list-right {rows} {T} {heights} {s} {t} {left} {k} loaded made =
-    subst (λ (L : ℕ → ℕ). ListOf (Plane rows) L T (entriesIn left (length heights) k)) (loaded-levels loaded)
+    subst (λ (L : ℕ → ℕ). ListOf (Plane rows) L T (entriesIn left (length heights) k)) (loaded-levels refl loaded)
     (made .order)
 
 list-length : (left : List ℕ) (n k : ℕ) → length (entriesIn left n k) ≡ k

@@ -89,7 +89,7 @@ pub extern "C" fn meter_column(
     let step = run::column_flat(run, column, grid, work, table.len() / 16);
     let handed = step.handed;
     let cells = run::cells_of(handed, cells_with(rows, columns));
-    suite::put_records(table, work, cells, run::count_of(handed));
+    layout::lay_records(table, work, cells, run::count_of(handed));
     handed_number(handed)
 }
 
@@ -160,7 +160,7 @@ fn take_records(table: &mut [u8], file: &[u8], cells: usize, count: usize)
 {
     let mut i: usize = 0;
     while i < count {
-        suite::put_record(table, i, layout::record_in(file, cells, i));
+        layout::lay_record(table, i, layout::record_in(file, cells, i));
         i += 1;
     }
 }

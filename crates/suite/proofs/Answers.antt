@@ -24,8 +24,9 @@ use Rattle.layout.specs.Layout.{bytesOf, recordsOf}
 use Rattle.survey.specs.Answers.{entriesIn, Loaded, Answered}
 use Rattle.survey.proofs.Recording.{places-record, places-length}
 use Rattle.suite.specs.Entry.{heightsOf, pickNumber, suiteAnswer, suiteTable, SuiteLists}
-use Rattle.suite.proofs.Heights.{loaded-levels}
-use Rattle.suite.proofs.Putting.{recordBytes}
+use Rattle.survey.proofs.Marking.{loaded-levels}
+use Rattle.suite.proofs.Heights.{heights-length}
+use Rattle.layout.proofs.Putting.{recordBytes}
 
 -- ---- refused before the list is made
 
@@ -112,7 +113,7 @@ module _ {rows : ℕ} {heights : List ℕ} {T work : ℕ} (table : List ℕ) {s 
       → SuiteLists rows heights T work table table′ a
   listed e f = record {
     list = entriesIn left (length heights / 4) k;
-    right = rw (← loaded-levels heights loaded) (made .order);
+    right = rw (← loaded-levels (heights-length heights _) loaded) (made .order);
     answered = e ∙ ap (suiteAnswer rows (length heights) work (length table)) (sym (places-length _ k));
     filled = f;
   }

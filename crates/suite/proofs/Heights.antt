@@ -1,57 +1,38 @@
 -- Heights in two's complement, and the heights of lent bytes.
---     flip-low, flip-high      2^31 added or taken off takes a two's complement to its level, and a level to its
---                              height's two's complement
---     level-height             the height at a height's level is that height
+--     flip-low, flip-high      2^31 added or taken off takes a two's complement to its level
 --     heights-length           the first n heights are n
 --     heights-at               and each is that of its number
 --     loads-flip               a turn of the loop that loads, by `Loads` of the crate `survey`
---     loaded-levels            the levels loaded are those of the heights
 -- A flip goes by the highest bit, and is linear arithmetic in each case. Assumes nothing.
-use mathlib.Core.Path.{_≡_, refl, sym, _∙_, ap, fun-ext}
+use mathlib.Core.Path.{_≡_, refl, sym, _∙_, ap}
 use mathlib.Core.List.{List, [], _∷_}
 use Prim.Native.Nat.{ℕ, zero, suc, _+_, _-_, _≤_, _<_}
 use native.Mathlib.Numerals.{add-one}
 use native.Mathlib.Omega.{arith}
-use borrow.Author.Tests.{lt-ltb, le-ltb, le-leb, lt-leb}
+use borrow.Author.Tests.{lt-ltb, le-ltb}
 use lib.IntN.{ℤ}
 use lib.ListN.{length, getD, length-append, List·getD-append}
 use lib.Seq.{getD-at}
-use mir.Syntax.{w32}
-use mir.Val.{SFits}
-use Rattle.relief.specs.Heights.{BLANK, levelOf, heightOf, levels}
-use Rattle.relief.proofs.Deciding.{split, below-suc, le-or-lt}
-use Rattle.relief.proofs.Grids.{levels-end}
-use Rattle.relief.proofs.PlaneRun.{heightOf-level}
-use Rattle.record.proofs.Levels.{level-below, level-injective}
+use Rattle.relief.specs.Heights.{BLANK, levelOf}
+use Rattle.relief.proofs.Deciding.{split, below-suc}
 use Rattle.words.specs.Words.{wordAt, Stored}
-use Rattle.words.specs.Area.{levelIn}
-use Rattle.sweep.specs.Taking.{cut}
-use Rattle.sweep.proofs.Work.{cut-below, cut-behind}
-use Rattle.survey.specs.Answers.{Loaded}
 use Rattle.survey.proofs.Marking.{Loads, loads-step}
-use Rattle.layout.specs.Layout.{bitsOf, signedOf}
+use Rattle.layout.specs.Layout.{signedOf}
 use Rattle.suite.specs.Entry.{heightsOf}
 
 -- ---- one height
 
-pub flip-low : (w : ℕ) → w < 2147483648
-    → (w + 2147483648 ≡ levelOf (signedOf w)) × (w + 2147483648 ≡ bitsOf (heightOf w))
-unfolding levelOf heightOf signedOf bitsOf
-flip-low w l = (rw (lt-ltb w 2147483648 l, levelOf), rw (lt-leb 2147483648 w l, bitsOf) (omega arith))
+pub flip-low : (w : ℕ) → w < 2147483648 → w + 2147483648 ≡ levelOf (signedOf w)
+unfolding levelOf signedOf
+flip-low w l = rw (lt-ltb w 2147483648 l, levelOf)
 
-pub flip-high : (w : ℕ) → 2147483648 ≤ w → w < 4294967296
-    → (w - 2147483648 ≡ levelOf (signedOf w)) × (w - 2147483648 ≡ bitsOf (heightOf w))
-unfolding levelOf heightOf signedOf bitsOf
-flip-high w h l = (rw (le-ltb w 2147483648 h, levelOf) (omega arith), rw (le-leb 2147483648 w h, bitsOf))
-
-pub level-height : {z : ℤ} → SFits w32 z → heightOf (levelOf z) ≡ z
-level-height {z} f =
-    let h = heightOf-level (levelOf z) (level-below f) in
-    level-injective (record { sfits = h .1 }) f (h .0)
+pub flip-high : (w : ℕ) → 2147483648 ≤ w → w < 4294967296 → w - 2147483648 ≡ levelOf (signedOf w)
+unfolding levelOf signedOf
+flip-high w h l = rw (le-ltb w 2147483648 h, levelOf) (omega arith)
 
 -- ---- the heights of lent bytes
 
-heights-length : (f : List ℕ) (n : ℕ) → length (heightsOf f n) ≡ n
+pub heights-length : (f : List ℕ) (n : ℕ) → length (heightsOf f n) ≡ n
 unfolding heightsOf
 heights-length f zero = refl
 heights-length f (suc n) =
@@ -74,10 +55,3 @@ pub loads-flip : (f : List ℕ) {s t u : List ℕ} {n c x v : ℕ} → Loads s t
 loads-flip f {n} {c} h here e q st =
     loads-step BLANK (let k = heights-length f n in omega arith) h here
     (q ∙ ap (λ (w : ℕ). levelOf (signedOf w)) e ∙ sym (ap levelOf (heights-at f n c BLANK here))) st
-
-pub loaded-levels : (f : List ℕ) {s t : List ℕ} {n : ℕ} → Loaded s t (heightsOf f n) n
-    → cut n (levelIn t) ≡ levels (heightsOf f n)
-loaded-levels f {t} {n} h = fun-ext λ c.
-    split (le-or-lt n c)
-    (λ l. cut-behind n (levelIn t) c l ∙ sym (levels-end (heightsOf f n) c (let k = heights-length f n in omega arith)))
-    (λ l. cut-below n (levelIn t) c l ∙ h .levels-in c l)

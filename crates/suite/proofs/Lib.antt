@@ -1,5 +1,3 @@
 mod Heights
-mod Bytes
-pub mod Putting
 mod Answers
 pub mod Claims

@@ -9,8 +9,8 @@ use Rattle.meter.proofs.Handing.{column-puttable, column-put}
 use Rattle.meter.proofs.meter_column.Statement.{statement}
 use Rattle.meter.proofs.meter_column.Tie as tie
 
-put-records-requires : tie.Need-put-records-requires
-put-records-requires c κs =
+lay-records-requires : tie.Need-lay-records-requires
+lay-records-requires c κs =
     let at-cells = c .before .before .before in
     let at-flat = at-cells .before .before .before .before .before in
     let a = at-flat .before .before .before .before .before .args in
@@ -27,7 +27,7 @@ returns c =
     let flat = at-flat .column-flat .ensures in
     let put =
     rw (at-count .count-of .ensures, at-cells .cells-of .ensures, at-cells .before .cells-with .ensures)
-    at (at-put .put-records .ensures) in
+    at (at-put .lay-records .ensures) in
     record {
       batch = flat .batch;
       handed = at-flat .column-flat .result .handed;
@@ -46,7 +46,7 @@ meter-column-spec =
     (λ c κs. search needs)
     (λ c κs. search needs)
     (λ c κs. search needs)
-    put-records-requires
+    lay-records-requires
     (λ c κs. search needs)
     (λ c. search needs)
     (λ c. search needs)

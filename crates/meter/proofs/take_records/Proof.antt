@@ -1,12 +1,12 @@
 -- `meter::take_records` meets its contract. The invariant: the table is the bytes of the records put so far, and then
--- what it was behind them (`Puts` of `suite`). What is left of the count falls. Assumes nothing.
+-- what it was behind them (`Puts` of `layout`). What is left of the count falls. Assumes nothing.
 use mathlib.Core.List.{List, _∷_}
 use mathlib.Core.Path.{refl}
 use Prim.Native.Nat.{ℕ, _-_}
 use native.Mathlib.Omega.{arith}
 use denote.Ref.{now}
 use Rattle.layout.specs.Layout.{recordIn, recordsIn}
-use Rattle.suite.proofs.Putting.{Grows, Puts, puts-start, puts-length, puts-step, puts-done}
+use Rattle.layout.proofs.Putting.{Grows, Puts, puts-start, puts-length, puts-step, puts-done}
 use Rattle.meter.proofs.take_records.Statement.{statement}
 use Rattle.meter.proofs.take_records.Tie as tie
 
@@ -29,8 +29,8 @@ record-in-requires c κs =
     let long = at-loop .before .before .before .pre .1 (omega arith) in
     omega arith
 
-put-record-requires : tie.Need-put-record-requires Inv-loop μ-loop
-put-record-requires c κs =
+lay-record-requires : tie.Need-lay-record-requires Inv-loop μ-loop
+lay-record-requires c κs =
     let at-loop = c .before .before .before in
     let at-entry = at-loop .before .before .before in
     let a = at-entry .args in
@@ -50,7 +50,7 @@ loop-again c =
     let at-entry = at-loop .before .before .before in
     let a = at-entry .args in
     puts-step (file-grows (now (a .file)) (a .cells)) (at-entry .pre .0) (at-loop .loop .inv)
-    (at-test .loop-test .taken) (at-put .before .record-in .ensures) (at-put .put-record .ensures)
+    (at-test .loop-test .taken) (at-put .before .record-in .ensures) (at-put .lay-record .ensures)
 
 same-length : tie.Need-same-length Inv-loop μ-loop
 same-length c =
@@ -69,7 +69,7 @@ take-records-spec =
     μ-loop
     loop-holds
     record-in-requires
-    put-record-requires
+    lay-record-requires
     add-i
     loop-less
     loop-again

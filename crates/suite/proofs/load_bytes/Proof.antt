@@ -45,7 +45,7 @@ loop-again c =
     let at-test = at-get .before .before in
     let at-loop = at-test .before in
     loads-flip (now (at-loop .before .before .before .args .heights)) (at-loop .loop .inv)
-    (at-test .loop-test .taken) (at-get .get .ensures) (at-put .before .flip .ensures .0) (at-put .put .ensures)
+    (at-test .loop-test .taken) (at-get .get .ensures) (at-put .before .flip .ensures) (at-put .put .ensures)
 
 same-length : tie.Need-same-length Inv-loop μ-loop
 same-length c = c .before .loop .inv .len

@@ -1,6 +1,6 @@
 -- `suite::mayexoton_list` meets its contract. Each refusal follows from the tests passed before it and the one that
 -- fails (`Answers`). Once all are passed, the levels loaded are those of the lent heights, the survey's entries are the
--- list, and `put_records` leaves their records' bytes in the table. Assumes nothing.
+-- list, and `lay_records` leaves their records' bytes in the table. Assumes nothing.
 use mathlib.Core.Path.{_≡_, sym, _∙_, ap}
 use Prim.Native.Nat.{ℕ, _*_, _%_}
 use native.Mathlib.Omega.{arith}
@@ -97,7 +97,7 @@ returns-7 c =
     let cells = at-work .before .if4 .left in
     rw (toZ-pos w64 (at-whole .whole .result) (omega arith))
     (suite-count (now (a .table)) (accepted at-work) (at-load .load-bytes .ensures)
-    (rw e at (at-whole .whole .ensures)) (at-table .if6 .left) (at-put .put-records .ensures))
+    (rw e at (at-whole .whole .ensures)) (at-table .if6 .left) (at-put .lay-records .ensures))
 
 pub mayexoton-list-spec : {M : Type 1} → statement M
 mayexoton-list-spec =

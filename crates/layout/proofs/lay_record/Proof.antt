@@ -1,14 +1,14 @@
--- `suite::put_record` meets its contract: four numbers stored one behind the other are the bytes of the record
+-- `layout::lay_record` meets its contract: four numbers stored one behind the other are the bytes of the record
 -- (`record-put`). A signed field comes back from its bits. Assumes nothing.
 use mathlib.Core.Path.{_∙_, ap}
 use denote.Ref.{now}
 use mir.Syntax.{w32}
 use mir.ValLaws.{toZ-ofZ}
 use borrow.Author.Needs.{needs}
 use Rattle.layout.specs.Layout.{bitsOf}
-use Rattle.suite.proofs.Putting.{record-put}
-use Rattle.suite.proofs.put_record.Statement.{statement}
-use Rattle.suite.proofs.put_record.Tie as tie
+use Rattle.layout.proofs.Putting.{record-put}
+use Rattle.layout.proofs.lay_record.Statement.{statement}
+use Rattle.layout.proofs.lay_record.Tie as tie
 
 returns : tie.Need-returns
 returns c =
@@ -22,11 +22,11 @@ returns c =
     record-put (now (a .table)) (a .i) (a .peak)
     (at-height .before .bits .ensures ∙ ap bitsOf (toZ-ofZ w32 _ (record { sfits = fh })))
     (at-key .before .bits2 .ensures ∙ ap bitsOf (toZ-ofZ w32 _ (record { sfits = fk })))
-    (at-cell .put-word .ensures) (at-height .put-word2 .ensures) (at-key .put-word3 .ensures)
-    (at-pass .put-word4 .ensures)
+    (at-cell .lay-word .ensures) (at-height .lay-word2 .ensures) (at-key .lay-word3 .ensures)
+    (at-pass .lay-word4 .ensures)
 
-pub put-record-spec : {M : Type 1} → statement M
-put-record-spec =
+pub lay-record-spec : {M : Type 1} → statement M
+lay-record-spec =
     tie.close
     (tie.spec
     (λ c. search needs)

@@ -15,9 +15,9 @@ use lib.ListN.{length, drop, length-append, length-drop}
 use lib.Seq.{sets, sets-eq, take-at, drop-append-add, drop-drop}
 use Rattle.words.specs.Area.{orderIn}
 use Rattle.record.specs.declared.Peak.{Peak}
 use Rattle.layout.specs.Layout.{bitsOf, wordOf, bytesOf, recordOf, recordsOf}
 use Rattle.table.specs.Table.{peakIn, recordsIn}
-use Rattle.suite.proofs.Bytes.{sets-word}
+use Rattle.layout.proofs.Bytes.{sets-word}
 
 -- ---- one record
 

@@ -1,4 +1,4 @@
--- `suite::put_records` meets its contract. The invariant: the table is the bytes of the records put so far, and then
+-- `layout::lay_records` meets its contract. The invariant: the table is the bytes of the records put so far, and then
 -- what it was behind them. A turn stores the next record at that seam. What is left of the count falls.
 -- Assumes nothing.
 use Prim.Native.Nat.{_-_}
@@ -6,9 +6,9 @@ use native.Mathlib.Omega.{arith}
 use denote.Ref.{now}
 use Rattle.table.proofs.Laws.{counted-pointed}
 use Rattle.table.specs.Table.{recordsIn}
-use Rattle.suite.proofs.Putting.{Puts, records-grow, puts-start, puts-length, puts-step, puts-done}
-use Rattle.suite.proofs.put_records.Statement.{statement}
-use Rattle.suite.proofs.put_records.Tie as tie
+use Rattle.layout.proofs.Putting.{Puts, records-grow, puts-start, puts-length, puts-step, puts-done}
+use Rattle.layout.proofs.lay_records.Statement.{statement}
+use Rattle.layout.proofs.lay_records.Tie as tie
 
 abbrev Inv-loop : tie.InvT-loop
 Inv-loop table₀ work n count i₀ table i = Puts table₀ (recordsIn work n) count table i
@@ -24,8 +24,8 @@ record-at-requires c κs =
     let at-loop = c .before .before in
     counted-pointed (at-loop .before .before .before .pre .0) (at-loop .loop .i) (c .before .loop-test .taken)
 
-put-record-requires : tie.Need-put-record-requires Inv-loop μ-loop
-put-record-requires c κs =
+lay-record-requires : tie.Need-lay-record-requires Inv-loop μ-loop
+lay-record-requires c κs =
     let at-loop = c .before .before .before in
     let at-entry = at-loop .before .before .before in
     let a = at-entry .args in
@@ -45,7 +45,7 @@ loop-again c =
     let at-entry = at-loop .before .before .before in
     let a = at-entry .args in
     puts-step (records-grow (now (a .work)) (a .n)) (at-entry .pre .1) (at-loop .loop .inv) (at-test .loop-test .taken)
-    (at-put .before .record-at .ensures) (at-put .put-record .ensures)
+    (at-put .before .record-at .ensures) (at-put .lay-record .ensures)
 
 same-length : tie.Need-same-length Inv-loop μ-loop
 same-length c =
@@ -56,15 +56,15 @@ same-length c =
 returns : tie.Need-returns Inv-loop μ-loop
 returns c = puts-done (c .before .loop .inv) (c .loop-test .left)
 
-pub put-records-spec : {M : Type 1} → statement M
-put-records-spec =
+pub lay-records-spec : {M : Type 1} → statement M
+lay-records-spec =
     tie.close
     (tie.spec
     Inv-loop
     μ-loop
     loop-holds
     record-at-requires
-    put-record-requires
+    lay-record-requires
     add-i
     loop-less
     loop-again
