@@ -76,6 +76,8 @@ ifeq ($(CPP_MACHINE),x86_64)
 cpp-bench: $(CPP_OUT)/bench $(CPP_OUT)/calls
 	@$(CPP_OUT)/bench
 	@echo
+	@python3 bench/callgrind.py $(CPP_OUT)/bench
+	@echo
 	@$(CPP_OUT)/calls
 else
 cpp-bench: cpp-instructions

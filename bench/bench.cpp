@@ -4,6 +4,9 @@
 //     bench --work    the same for an emulator, where a time says nothing: counts instructions (counter.cpp), and where
 //                     nobody counts prints only how the two times compare
 //     bench --small   only checks that both agree, on small grids of all kinds
+//     bench --one KIND WHO TURNS
+//                     lists a grid of 256 x 256 cells so many times, for who counts instructions (callgrind.py); KIND is
+//                     the number of the kind, WHO library or reference
 //
 // Every call's records are compared; a difference ends the program with status 1.
 
@@ -224,17 +227,35 @@ int check_small() {
     return EXIT_SUCCESS;
 }
 
+// ---- one kind, one lister
+
+int run_one(const grids::Kind &kind, std::string_view who, int turns) {
+    constexpr std::uint32_t size = sizes.front();
+    const grids::Heights heights = kind.make(size, size);
+    Contest contest(size, heights);
+    for (int turn = 0; turn < turns; ++turn) {
+        if (who == "library") contest.run_library(1);
+        else contest.run_reference(1);
+    }
+    std::printf("%s, %" PRIu32 "\n", kind.name, size * size);
+    return EXIT_SUCCESS;
+}
+
 int usage() {
-    std::fprintf(stderr, "usage: bench [--work | --small]\n");
+    std::fprintf(stderr, "usage: bench [--work | --small | --one KIND WHO TURNS]\n");
     return EXIT_FAILURE;
 }
 
 } // namespace
 
 int main(int argc, char **argv) {
-    const std::string_view option = argc == 2 ? argv[1] : "";
+    const std::string_view option = argc >= 2 ? argv[1] : "";
     if (argc == 1) return print_times();
-    if (option == "--work") return print_work();
-    if (option == "--small") return check_small();
+    if (argc == 2 && option == "--work") return print_work();
+    if (argc == 2 && option == "--small") return check_small();
+    if (argc == 5 && option == "--one") {
+        const auto kind = static_cast<std::size_t>(std::atoi(argv[2]));
+        if (kind < grids::kinds.size()) return run_one(grids::kinds[kind], argv[3], std::atoi(argv[4]));
+    }
     return usage();
 }
