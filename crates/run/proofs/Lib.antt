@@ -1,5 +1,6 @@
 pub mod Checks
 pub mod Columns
+pub mod Coded
 pub mod Rows
 pub mod Values
 pub mod Calls

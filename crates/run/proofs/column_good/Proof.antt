@@ -1,11 +1,11 @@
--- `column_good`: the column is copied behind the taken cells, and their levels loaded and surveyed; `Columns` puts the
+-- `column_good`: the column is copied behind the taken cells, and their levels loaded and surveyed; `Coded` puts the
 -- calls' promises together, with and without room for the batch. Assumes nothing.
 use mathlib.Core.Path.{refl}
 use mathlib.Core.List.{[]}
 use native.Mathlib.Omega.{arith}
 use lib.ListN.{length}
 use denote.Ref.{now}
-use Rattle.run.proofs.Columns.{
+use Rattle.run.proofs.Coded.{
   column-sum,
   column-copying,
   column-loading,

@@ -1,11 +1,11 @@
--- `end_good`: the levels of the taken cells are loaded and surveyed; `Columns` puts the calls' promises together, with
+-- `end_good`: the levels of the taken cells are loaded and surveyed; `Coded` puts the calls' promises together, with
 -- and without room for the rest. Assumes nothing.
 use mathlib.Core.Path.{refl}
 use mathlib.Core.List.{[]}
 use native.Mathlib.Omega.{arith}
 use lib.ListN.{length}
 use denote.Ref.{now}
-use Rattle.run.proofs.Columns.{end-sum, end-loading, end-surveying, end-code-short, end-code-count}
+use Rattle.run.proofs.Coded.{end-sum, end-loading, end-surveying, end-code-short, end-code-count}
 use borrow.Author.Needs.{needs}
 use Rattle.run.proofs.end_good.Statement.{statement}
 use Rattle.run.proofs.end_good.Tie as tie
