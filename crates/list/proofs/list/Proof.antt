@@ -131,7 +131,8 @@ module _ {M : Type 1} (𝓤 : URA M) (H : Heap 𝓤) (A : Atoms 𝓤) (W : Given
       → ent 𝓤 (⋆ 𝓤 H A (‵ (flft κ₀ q₀) ∷ ‵ (flft κ₁ q₁) ∷ ‵ (flft κ₂ q₂) ∷ ‵ Hts ∷ ‵ (Work zs)
       ∷ ‵ (finally R (t .name) ts) ∷ [])) (Post u)
   exits r u is zs left ts filled =
-      qed W (‵ (flft κ₀ q₀) ∷ ‵ (flft κ₁ q₁) ∷ ‵ (flft κ₂ q₂) ∷ ‵ Hts ∷ ‵ (Work zs) ∷ ‵ (finally R (t .name) ts) ∷ []) ∵
+      qed W (‵ (flft κ₀ q₀) ∷ ‵ (flft κ₁ q₁) ∷ ‵ (flft κ₂ q₂) ∷ ‵ Hts ∷ ‵ (Work zs)
+      ∷ ‵ (finally R (t .name) ts) ∷ []) ∵
       suffices ! _ (ends-at 𝓤 H A list.ended stayed (list.clauses 𝓤 H A mem run) W bound u r
       (tt, (tt, (tt, (zs, (ts, tt))))) (tt, (tt, (tt, (left .0, (filled .0, tt)))))) $
       says ! (flat-lists (t .now) r (left .1) (filled .1)) $

@@ -295,7 +295,8 @@ module _ {M : Type 1} (𝓤 : URA M) (H : Heap 𝓤) (A : Atoms 𝓤) (W : Given
   -- ---- the end
   exits : (w : Written) (u : Val) → Is S.the-row w (u ∷ []) → (k : ℕ) → FirstUnsound (h .now) (p .now) k
       → (zs : List ℕ) → GridLeft k w zs → (ts : List ℕ) → PutLeft w zs ts
-      → ent 𝓤 (⋆ 𝓤 H A (‵ (flft κ₀ q₀) ∷ ‵ (flft κ₁ q₁) ∷ ‵ (flft κ₂ q₂) ∷ ‵ Hts ∷ ‵ Recs ∷ ‵ (finally u8 γ ts) ∷ []))
+      → ent 𝓤 (⋆ 𝓤 H A (‵ (flft κ₀ q₀) ∷ ‵ (flft κ₁ q₁) ∷ ‵ (flft κ₂ q₂) ∷ ‵ Hts ∷ ‵ Recs
+      ∷ ‵ (finally u8 γ ts) ∷ []))
       (Post u)
   exits w u is k found zs left ts put-left =
       qed W (‵ (flft κ₀ q₀) ∷ ‵ (flft κ₁ q₁) ∷ ‵ (flft κ₂ q₂) ∷ ‵ Hts ∷ ‵ Recs ∷ ‵ (finally u8 γ ts) ∷ []) ∵
