@@ -17,7 +17,7 @@ use Rattle.relief.specs.Plane.{Plane}
 use Rattle.relief.proofs.Listing.{order-unique}
 use Rattle.relief.proofs.Surveying.{survey, survey-list}
 use Rattle.relief.proofs.Plane.{plane?}
-use Rattle.relief.proofs.Grids.{plane-terrain}
+use Rattle.relief.proofs.PlaneRun.{plane-terrain}
 use Rattle.record.specs.declared.Peak.{Peak}
 use Rattle.record.specs.declared.Refusal.{Refusal}
 use Rattle.record.specs.declared.Refusal.the-variants.{Rows, Length, Cells, Work, Table}

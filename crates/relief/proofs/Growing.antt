@@ -13,8 +13,7 @@ use mathlib.Core.Logic.{_⊎_, inl, inr}
 use Prim.Native.Nat.{ℕ, zero, suc, _≤_, _<_}
 use native.Mathlib.Omega.{arith}
 use Rattle.relief.specs.Peaks.{Entry, Listed, Member, ListOf}
-use Rattle.relief.specs.Runs.{Stage, Closed, Batch, Rest}
-use Rattle.relief.specs.Claims.{Growing}
+use Rattle.relief.specs.Runs.{Stage, Closed, Batch, Rest, Growing}
 use Rattle.relief.proofs.Deciding.{split, Decides, below-suc}
 use Rattle.relief.proofs.Peaking.{land-below}
 use Rattle.relief.proofs.Listing.{entry-unique}

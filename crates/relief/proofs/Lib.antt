@@ -10,5 +10,3 @@ pub mod Closing
 pub mod Growing
 pub mod PlaneRun
 pub mod Plane
-pub mod Grids
-pub mod Claims

@@ -1,4 +1,6 @@
--- A run of columns in the plane: it grows as a run does, and its newest cells touch the next column.
+-- Grids and runs of columns in the plane: a run grows as a run does, and its newest cells touch the next column.
+--     plane-terrain      a grid of heights is a terrain
+--     plane-staged       and so are the first columns of it
 --     plane-growing      the stages of a run of heights
 --     heightOf-level     the height at a level has this level
 --     plane-next         a cell of the last column touches one of the next
@@ -15,20 +17,48 @@ use lib.Dec.{leb}
 use lib.IntN.{ℤ, pos, negsuc}
 use lib.Signed.{mag}
 use borrow.Author.Tests.{leb-true, leb-false}
-use lib.ListN.{length, take, getD, replicate, getD-replicate, List·getD-append}
+use lib.ListN.{
+  length,
+  take,
+  getD,
+  replicate,
+  length-take,
+  getD-replicate,
+  List·getD-append,
+  List·getD-eq-default,
+}
 use lib.Seq.{getD-take, getD-append-add}
 use Rattle.relief.specs.Heights.{BLANK, levelOf, heightOf, levels}
 use Rattle.relief.specs.Peaks.{Island, Entry, floorOf}
-use Rattle.relief.specs.Runs.{Open}
 use Rattle.relief.specs.Plane.{rowOf, columnOf, Plane, stageOf}
-use Rattle.relief.specs.Claims.{Further, Growing, KeyKept}
+use Rattle.relief.specs.Runs.{Open, Further, Growing, KeyKept}
 use Rattle.relief.proofs.Deciding.{split, decide, le-or-lt, le-decides, both-decides, any-decides}
 use Rattle.relief.proofs.Ways.{way-end}
-use Rattle.relief.proofs.Peaking.{land-below}
+use Rattle.relief.proofs.Peaking.{Terrain, land-below}
 use Rattle.relief.proofs.Keys.{island-decides}
 use Rattle.relief.proofs.Closing.{open-changes}
-use Rattle.relief.proofs.Plane.{plane-fence}
-use Rattle.relief.proofs.Grids.{plane-staged}
+use Rattle.relief.proofs.Batching.{Staged}
+use Rattle.relief.proofs.Plane.{plane?, plane-decides, plane-symmetric, plane-fence}
+
+pub levels-end : (heights : List ℤ) (c : ℕ) → length heights ≤ c → levels heights c ≡ 0
+unfolding levels levelOf
+levels-end heights c h = ap levelOf (List·getD-eq-default heights BLANK h)
+
+pub plane-terrain : (rows : ℕ) (heights : List ℤ) → Terrain (Plane rows) (plane? rows) (levels heights) (length heights)
+plane-terrain rows heights = record {
+  symmetric = plane-symmetric rows;
+  decides = plane-decides rows;
+  ends = levels-end heights;
+}
+
+pub plane-staged : (rows columns : ℕ) (heights : List ℤ)
+    → Staged (Plane rows) (plane? rows) (stageOf rows columns heights)
+plane-staged rows columns heights = record {
+  symmetric = plane-symmetric rows;
+  decides = plane-decides rows;
+  ends = λ c h. levels-end (take (columns * rows) heights) c
+      (let l = length-take (columns * rows) heights in omega arith);
+}
 
 -- cells within the first n are those of the whole grid
 pub levels-take : (heights : List ℤ) (n c : ℕ) → c < n → levels (take n heights) c ≡ levels heights c

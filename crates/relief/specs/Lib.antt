@@ -2,5 +2,3 @@ pub mod Heights
 pub mod Peaks
 pub mod Runs
 pub mod Plane
-pub mod Grids
-pub mod Claims

@@ -22,8 +22,7 @@ use Rattle.relief.specs.Plane.{Plane, stageOf}
 use Rattle.relief.proofs.Deciding.{split, le-or-lt, either, true-not-false}
 use Rattle.relief.proofs.Batching.{surveyBatch, surveyRest, survey-batch, survey-rest}
 use Rattle.relief.proofs.Plane.{plane?}
-use Rattle.relief.proofs.Grids.{levels-end, plane-staged}
-use Rattle.relief.proofs.PlaneRun.{levels-take}
+use Rattle.relief.proofs.PlaneRun.{levels-end, levels-take, plane-staged}
 use Rattle.record.specs.declared.Refusal.{Refusal}
 use Rattle.record.specs.declared.Refusal.the-variants.{Table}
 use Rattle.record.specs.Records.{recordOf}

@@ -18,10 +18,10 @@ use Rattle.relief.specs.Heights.{levels}
 use Rattle.relief.specs.Peaks.{Entry, ListOf}
 use Rattle.relief.specs.Runs.{Stage, Batch, Rest}
 use Rattle.relief.specs.Plane.{Plane, stageOf}
-use Rattle.relief.specs.Claims.{Touching}
+use Rattle.theorems.specs.Claims.{Touching}
 use Rattle.relief.proofs.Deciding.{split, test, below-suc}
 use Rattle.relief.proofs.Listing.{order-unique}
-use Rattle.relief.proofs.Claims.{claims}
+use Rattle.theorems.proofs.Claims.{claims}
 use Rattle.record.specs.declared.Refusal.{Refusal}
 use Rattle.record.specs.Records.{recordOf}
 use Rattle.run.specs.declared.Run.{Run}

@@ -16,7 +16,7 @@ use Rattle.relief.specs.Peaks.{Listed}
 use Rattle.relief.specs.Plane.{Plane}
 use Rattle.relief.proofs.Surveying.{survey, survey-list}
 use Rattle.relief.proofs.Plane.{plane?}
-use Rattle.relief.proofs.Grids.{plane-terrain}
+use Rattle.relief.proofs.PlaneRun.{plane-terrain}
 use Rattle.record.specs.declared.Peak.{Peak}
 use Rattle.words.specs.Area.{levelIn}
 use Rattle.sweep.specs.Taking.{cut}

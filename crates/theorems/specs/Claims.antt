@@ -2,40 +2,18 @@
 use mathlib.Core.{Path._≡_, List.List, List._++_, Logic._⊎_, Logic._↔_}
 use Prim.Native.Nat.{ℕ, suc, _+_, _-_, _*_, _≤_, _<_}
 use lib.{IntN.ℤ, ListN.length, ListN.replicate, Signed.mag}
 use Rattle.relief.specs.Heights.{levelOf}
 use Rattle.relief.specs.Peaks.{Way, least, Path, Peak, Outranks, KeyHeight, NoKey, Island, PassCell, Entry}
 use Rattle.relief.specs.Peaks.{floorOf, prominence, Member, InReadingOrder, PeakEntry, ListOf}
-use Rattle.relief.specs.Runs.{Stage, Closed, Open, Batch, Rest}
+use Rattle.relief.specs.Runs.{Stage, Closed, Open, Batch, Rest, Further, Growing, KeyKept}
 use Rattle.relief.specs.Plane.{rowOf, columnOf, Plane, stageOf}
-use Rattle.relief.specs.Grids.{Follow, marked}
+use Rattle.theorems.specs.Grids.{Follow, marked}
 
 -- A symmetric way of touching that a test tells.
 pub record Touching : Type 1 where
   pub touch : ℕ → ℕ → Type 0
   pub symmetric : (a b : ℕ) → touch a b → touch b a
   pub told : (a b : ℕ) → Dec (touch a b)
-
-module _ (touch : ℕ → ℕ → Type 0) where
-  -- ""Further columns" in demand 3 are any columns of legal heights and blanks": they leave the taken cells as they
-  -- are, and no cell before the last column touches one of theirs. What lies behind the taken cells has level 0.
-  pub record Further (s s′ : Stage) : Type 0 where
-    pub kept : (c : ℕ) → c < s .cells → s′ .level c ≡ s .level c
-    pub newer : s .newest ≤ s′ .newest
-    pub fence : (a d : ℕ) → a < s .newest → s .cells ≤ d → touch a d → ⊥
-    pub ends : (c : ℕ) → s .cells ≤ c → s .level c ≡ 0
-    pub ends-after : (c : ℕ) → s′ .cells ≤ c → s′ .level c ≡ 0
-
-  -- A run from its start, column by column.
-  pub record Growing (stage : ℕ → Stage) : Type 0 where
-    pub start : stage 0 .cells ≡ 0
-    pub further : (j : ℕ) → Further (stage j) (stage (suc j))
-
-  -- The peak has in s the key height that e says, or as e none: neither changed nor unmade. (A key height is above 0.)
-  pub record KeyKept (s : Stage) (e : Entry) : Type 0 where
-    pub entry : Entry
-    pub right : PeakEntry touch (s .level) entry
-    pub cell : entry .cell ≡ e .cell
-    pub floor : floorOf (entry .key) ≡ floorOf (e .key)
 
 -- What is claimed of a grid that has an end.
 pub record OfGrid (touch : ℕ → ℕ → Type 0) (level : ℕ → ℕ) : Type 1 where

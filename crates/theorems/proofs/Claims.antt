@@ -1,26 +1,26 @@
--- A proof of each claim of `specs/Claims.antt`, from the laws of this folder. Assumes nothing.
+-- A proof of each claim of `specs/Claims.antt`, from the laws of `relief`. Assumes nothing.
 use mathlib.Core.Path.{_≡_, refl}
 use mathlib.Core.Bool.{Bool, true, false}
 use mathlib.Core.List.{List}
 use Prim.Native.Nat.{ℕ, suc, _≤_, _<_}
 use native.Mathlib.Nat.{mod-lt}
 use native.Mathlib.Omega.{arith}
 use Rattle.relief.specs.Heights.{heightOf}
-use Rattle.relief.specs.Peaks.{Key, missing, key, Entry, Wanted, KeyOf, Listed, ListOf}
-use Rattle.relief.specs.Runs.{Stage}
-use Rattle.relief.specs.Claims.{Touching, Further, OfGrid, Handing, OfHanding, Claims}
+use Rattle.relief.specs.Peaks.{Key, missing, key, Entry, Wanted, KeyOf, Listed}
+use Rattle.relief.specs.Runs.{Stage, Further}
+use Rattle.theorems.specs.Claims.{Touching, OfGrid, Handing, OfHanding, Claims}
 use Rattle.relief.proofs.Deciding.{split, Decides, true-not-false, le-or-lt, lt-decides}
 use Rattle.relief.proofs.Ways.{way-end, way-step, path-of-way}
 use Rattle.relief.proofs.Reaching.{way-decides}
 use Rattle.relief.proofs.Peaking.{Terrain, land-below, climb}
 use Rattle.relief.proofs.Keys as Keys
 use Rattle.relief.proofs.Listing as Listing
 use Rattle.relief.proofs.Surveying.{peak-key, survey-list}
 use Rattle.relief.proofs.Closing as Closing
 use Rattle.relief.proofs.Growing as Growing
 use Rattle.relief.proofs.Plane as Plane
 use Rattle.relief.proofs.PlaneRun.{plane-growing, heightOf-level, plane-open}
-use Rattle.relief.proofs.Grids.{marked-follow}
+use Rattle.theorems.proofs.Grids.{marked-follow}
 
 abbrev isYes : {A : Type 0} → Dec A → Bool
 isYes (yes a) = true

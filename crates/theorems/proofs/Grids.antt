@@ -1,48 +1,26 @@
 -- The marked grids follow from the definitions: the survey, run on each of them, gives what the table says.
---     plane-terrain      a grid of heights, with plane touching, is a terrain
 --     agrees x           the survey of an example gives what the table says, by a test
 --     follow             and then each example is as the definitions say
 --     marked-follow      the whole table, by one computation
 -- Assumes nothing.
-use mathlib.Core.Path.{_≡_, refl, ap, subst}
+use mathlib.Core.Path.{_≡_, refl, subst}
 use mathlib.Core.Bool.{Bool, true, false}
 use mathlib.Core.List.{List, [], _∷_}
-use Prim.Native.Nat.{ℕ, suc, _*_, _≤_}
-use native.Mathlib.Omega.{arith}
-use lib.Dec.{T, eqb}
+use Prim.Native.Nat.{ℕ, suc, _*_}
+use lib.Dec.{eqb}
 use lib.IntN.{ℤ}
-use lib.ListN.{length, take, length-take, List·getD-eq-default}
+use lib.ListN.{length}
 use borrow.Author.Tests.{eqb-true}
-use Rattle.relief.specs.Heights.{BLANK, levelOf, levels}
+use Rattle.relief.specs.Heights.{levelOf, levels}
 use Rattle.relief.specs.Peaks.{Key, missing, key, Entry, ListOf}
 use Rattle.relief.specs.Runs.{Batch, Rest}
 use Rattle.relief.specs.Plane.{Plane, stageOf}
-use Rattle.relief.specs.Grids.{Example, grid, run, HandedOut, Follow, marked}
+use Rattle.theorems.specs.Grids.{Example, grid, run, HandedOut, Follow, marked}
 use Rattle.relief.proofs.Deciding.{true-not-false, both}
-use Rattle.relief.proofs.Peaking.{Terrain}
 use Rattle.relief.proofs.Surveying.{peak?, better?, joined?, keyLevel, entryAt, listed?, survey, survey-list}
-use Rattle.relief.proofs.Batching.{Staged, closed?, surveyRest, surveyBatch, survey-rest, survey-batch}
-use Rattle.relief.proofs.Plane.{plane?, plane-decides, plane-symmetric}
-
-pub levels-end : (heights : List ℤ) (c : ℕ) → length heights ≤ c → levels heights c ≡ 0
-unfolding levels levelOf
-levels-end heights c h = ap levelOf (List·getD-eq-default heights BLANK h)
-
-pub plane-terrain : (rows : ℕ) (heights : List ℤ) → Terrain (Plane rows) (plane? rows) (levels heights) (length heights)
-plane-terrain rows heights = record {
-  symmetric = plane-symmetric rows;
-  decides = plane-decides rows;
-  ends = levels-end heights;
-}
-
-pub plane-staged : (rows columns : ℕ) (heights : List ℤ)
-    → Staged (Plane rows) (plane? rows) (stageOf rows columns heights)
-plane-staged rows columns heights = record {
-  symmetric = plane-symmetric rows;
-  decides = plane-decides rows;
-  ends = λ c h. levels-end (take (columns * rows) heights) c
-      (let l = length-take (columns * rows) heights in omega arith);
-}
+use Rattle.relief.proofs.Batching.{closed?, surveyRest, surveyBatch, survey-rest, survey-batch}
+use Rattle.relief.proofs.Plane.{plane?}
+use Rattle.relief.proofs.PlaneRun.{plane-terrain, plane-staged}
 
 -- ---- tests of equality
 
