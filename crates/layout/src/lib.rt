@@ -218,7 +218,7 @@ fn plan(rows: u32, cells: usize, n: usize, unsound: usize, room: usize) -> Writt
     if cells % words::index(rows) != 0 {
         return Written::Refused(Refusal::Length);
     }
-    if words::index(Cell::MAX_CELLS) < cells {
+    if Cell::MAX_CELLS < cells {
         return Written::Refused(Refusal::Cells);
     }
     if unsound < n {
@@ -341,7 +341,7 @@ fn judge(file: &[u8], heights: usize, table: usize) -> ReadBack
     }
     let columns = words::get(file, 1);
     let cells = cells_of(rows, columns);
-    if words::index(Cell::MAX_CELLS) < cells {
+    if Cell::MAX_CELLS < cells {
         return ReadBack::Refused(Refusal::Cells);
     }
     let peaks = words::get(file, 2);

@@ -2,6 +2,7 @@
 ghost use mathlib.Core.Path.{_≡_};
 ghost use lib.ListN.{length};
 ghost use Rattle.list.specs.Listing.{Lists, Flat, countIn, cellsIn};
+use record::Cell;
 use record::Peak;
 use record::Refusal;
 
@@ -19,7 +20,7 @@ pub fn flat(rows: u32, heights: &[i32], threshold: u32, work: &mut [u8], room: u
     if rows == 0 {
         return Listed::Refused(Refusal::Rows);
     }
-    if 1024 < rows {
+    if Cell::MAX_ROWS < rows {
         return Listed::Refused(Refusal::Rows);
     }
     let r = words::index(rows);
@@ -27,7 +28,7 @@ pub fn flat(rows: u32, heights: &[i32], threshold: u32, work: &mut [u8], room: u
     if n % r != 0 {
         return Listed::Refused(Refusal::Length);
     }
-    if 1048576 < n {
+    if Cell::MAX_CELLS < n {
         return Listed::Refused(Refusal::Cells);
     }
     if work.len() < 16 * n {

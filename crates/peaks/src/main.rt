@@ -4,6 +4,7 @@ use layout::ReadBack;
 use libc::STDIN_FILENO;
 use libc::STDOUT_FILENO;
 use list::Listed;
+use record::Cell;
 use record::Peak;
 use record::Refusal;
 
@@ -108,7 +109,7 @@ fn is_large(file: &[u8]) -> bool {
     if rows == 0 {
         return false;
     }
-    if 1024 < rows {
+    if Cell::MAX_ROWS < rows {
         return false;
     }
     MOST_CELLS < layout::cells_of(rows, words::get(file, 1))

@@ -20,7 +20,7 @@ impl Cell {
     // The most rows of a run.
     pub const MAX_ROWS: u32 = 1024;
     // The most cells of a run.
-    pub const MAX_CELLS: u32 = 1048576;
+    pub const MAX_CELLS: usize = 1048576;
 
     // Whether the cell is blank.
     pub fn is_blank(self) -> bool

@@ -5,6 +5,7 @@ ghost use lib.ListN.{length};
 ghost use lib.Seq.{paste};
 ghost use Rattle.run.specs.Running.{startAnswer, columnCheck, endCheck, GoodColumn, GoodEnd, FlatColumn, FlatEnd};
 ghost use Rattle.run.specs.Running.{Columns, Ends, takenOf, countIn, cellsIn};
+use record::Cell;
 use record::Peak;
 use record::Refusal;
 
@@ -47,7 +48,7 @@ pub fn start(rows: u32, threshold: u32) -> Started
     if rows == 0 {
         return Started::Refused(Refusal::Rows);
     }
-    if 1024 < rows {
+    if Cell::MAX_ROWS < rows {
         return Started::Refused(Refusal::Rows);
     }
     Started::Begun(Run {
@@ -68,7 +69,7 @@ fn check_column(run: Run, offered: usize, grid: usize, work: usize) -> Checked
     if rows == 0 {
         return Checked::Bad(Refusal::Rows);
     }
-    if 1024 < rows {
+    if Cell::MAX_ROWS < rows {
         return Checked::Bad(Refusal::Rows);
     }
     let r = words::index(rows);
@@ -76,7 +77,7 @@ fn check_column(run: Run, offered: usize, grid: usize, work: usize) -> Checked
     if grid < taken {
         return Checked::Bad(Refusal::TakenCells);
     }
-    if 1048576 < taken {
+    if Cell::MAX_CELLS < taken {
         return Checked::Bad(Refusal::TakenCells);
     }
     if ended {
@@ -86,7 +87,7 @@ fn check_column(run: Run, offered: usize, grid: usize, work: usize) -> Checked
         return Checked::Bad(Refusal::ColumnLength);
     }
     let n = taken + r;
-    if 1048576 < n {
+    if Cell::MAX_CELLS < n {
         return Checked::Bad(Refusal::Cells);
     }
     if grid < n {
@@ -108,14 +109,14 @@ fn check_end(run: Run, grid: usize, work: usize) -> Checked
     if rows == 0 {
         return Checked::Bad(Refusal::Rows);
     }
-    if 1024 < rows {
+    if Cell::MAX_ROWS < rows {
         return Checked::Bad(Refusal::Rows);
     }
     let taken = words::index(columns) * words::index(rows);
     if grid < taken {
         return Checked::Bad(Refusal::TakenCells);
     }
-    if 1048576 < taken {
+    if Cell::MAX_CELLS < taken {
         return Checked::Bad(Refusal::TakenCells);
     }
     if ended {

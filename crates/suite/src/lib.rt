@@ -7,6 +7,7 @@ ghost use Rattle.words.specs.Area.{Area};
 ghost use Rattle.layout.specs.Layout.{signedOf};
 ghost use Rattle.survey.specs.Answers.{Loaded};
 ghost use Rattle.suite.specs.Entry.{heightsOf, SuiteLists};
+use record::Cell;
 
 // Flips the highest bit: the two's complement of a height becomes its level.
 fn flip(w: u32) -> u32
@@ -46,7 +47,7 @@ pub extern "C" fn mayexoton_list(
     if rows == 0 {
         return -1;
     }
-    if 1024 < rows {
+    if Cell::MAX_ROWS < rows {
         return -1;
     }
     let r = words::index(rows);
@@ -55,7 +56,7 @@ pub extern "C" fn mayexoton_list(
         return -2;
     }
     let n = bytes / 4;
-    if 1048576 < n {
+    if Cell::MAX_CELLS < n {
         return -3;
     }
     if work.len() < 16 * n {

@@ -27,7 +27,7 @@ abbrev start2 : tie.Else2 → tie.Start
 start2 c = c .before .before .before .before
 
 abbrev start4 : tie.Else4 → tie.Start
-start4 c = start2 (c .before .before .before .before .before)
+start4 c = start2 (c .before .before .before .before)
 
 abbrev start5 : tie.Else5 → tie.Start
 start5 c = start4 (c .before .before .before .before)
@@ -52,24 +52,23 @@ cells-is c =
 
 gridded : (c : tie.Else4) → Gridded (file (start4 c))
 gridded c =
-    let c4 = c .before .before .before .before in
+    let c3 = c .before .before .before in
     record {
       long = omega arith;
-      some = some (c4 .before);
-      few = few c4;
-      fit = omega (arith, cells-is (c .before .before));
+      some = some (c3 .before);
+      few = few c3;
+      fit = omega (arith, cells-is (c .before));
     }
 
-peaks-is : (c : tie.After-index2) → c .index2 .result ≡ peaksIn (file (start4 (c .before .before)))
-peaks-is c = c .index2 .ensures ∙ c .before .get3 .ensures
+peaks-is : (c : tie.After-index) → c .index .result ≡ peaksIn (file (start4 (c .before .before)))
+peaks-is c = c .index .ensures ∙ c .before .get3 .ensures
 
 counts-is :
     (c : tie.After-is-miscounted) →
     let f = file (start4 (c .before .before .before)) in
     c .is-miscounted .result ≡ miscounted f (cellsIn f) (peaksIn f)
 counts-is c =
-    let c4 = c .before .before .before .before in
-    c .is-miscounted .ensures ∙ rw (cells-is (c4 .before), peaks-is (c .before))
+    c .is-miscounted .ensures ∙ rw (cells-is (c .before .before .before .before), peaks-is (c .before))
 
 counted : (c : tie.Else5) → let f = file (start5 c) in miscounted f (cellsIn f) (peaksIn f) ≡ false
 counted c = sym (counts-is (c .before)) ∙ c .if5 .left
@@ -80,16 +79,16 @@ whole c =
     record {
       grid = gridded (c3 .before .before .before .before);
       counted = counted c3;
-      total = c .if6 .left ∙ c .before .index3 .ensures ∙ c .before .before .get4 .ensures;
+      total = c .if6 .left ∙ c .before .index2 .ensures ∙ c .before .before .get4 .ensures;
     }
 
 abbrev at-cells : tie.Else6 → tie.After-cells-of
-at-cells c = let c4 = c .before .before .before .before in c4 .before .before .before .before .before
+at-cells c = let c4 = c .before .before .before .before in c4 .before .before .before .before
 
 cells-at : (c : tie.Else6) → at-cells c .cells-of .result ≡ cellsIn (file (start6 c))
 cells-at c = cells-is (at-cells c)
 
-peaks-at : (c : tie.Else6) → c .before .before .before .before .before .index2 .result ≡ peaksIn (file (start6 c))
+peaks-at : (c : tie.Else6) → c .before .before .before .before .before .index .result ≡ peaksIn (file (start6 c))
 peaks-at c = peaks-is (c .before .before .before .before .before)
 
 first :
@@ -121,11 +120,11 @@ returns-3 c =
 
 returns-4 : tie.Need-returns-4
 returns-4 c =
-    let c4 = c .before .before .before .before in
-    let s = start2 (c4 .before) in
+    let c3 = c .before .before .before in
+    let s = start2 (c3 .before) in
     judged (file s) (s .args .heights) (s .args .table) (λ u.
-    read-cells (file s) (s .args .heights) (s .args .table) u (omega arith) (some (c4 .before)) (few c4)
-    (omega (arith, cells-is (c .before .before))))
+    read-cells (file s) (s .args .heights) (s .args .table) u (omega arith) (some (c3 .before)) (few c3)
+    (omega (arith, cells-is (c .before))))
 
 returns-5 : tie.Need-returns-5
 returns-5 c =
@@ -139,7 +138,7 @@ returns-6 : tie.Need-returns-6
 returns-6 c =
     let c3 = c .before .before .before in
     let s = start5 c3 in
-    let stored = c .before .index3 .ensures ∙ c .before .before .get4 .ensures in
+    let stored = c .before .index2 .ensures ∙ c .before .before .get4 .ensures in
     judged (file s) (s .args .heights) (s .args .table) (λ u.
     read-total (file s) (s .args .heights) (s .args .table) u
     (gridded (c3 .before .before .before .before)) (counted c3)
@@ -206,7 +205,7 @@ returns-10 c =
     let cells = cells-at (at .before) in
     let peaks = peaks-at (at .before) in
     let at-get3 = at .before .before .before .before .before .before .before in
-    let at-get2 = at-get3 .before .before .before .before in
+    let at-get2 = at-get3 .before .before .before in
     record {
       unsound = u;
       first = first at;
@@ -224,7 +223,6 @@ judge-spec =
     (λ c κs. search needs)
     returns-2
     returns-3
-    (λ c κs. search needs)
     (λ c κs. search needs)
     (λ c κs. search needs)
     returns-4

@@ -38,38 +38,37 @@ returns-3 c =
 
 returns-4 : tie.Need-returns-4
 returns-4 c =
-    let c4 = c .before .before .before .before in
-    let a = c4 .before .before .args in
-    sym (write-cells (a .rows) (a .cells) (a .n) (a .unsound) (a .room) (c4 .before .if1 .left) (omega arith)
-    (sym (remainder (c .before .before .before)) ∙ c .before .before .if3 .left) (omega arith))
+    let c3 = c .before .before .before in
+    let a = c3 .before .before .args in
+    sym (write-cells (a .rows) (a .cells) (a .n) (a .unsound) (a .room) (c3 .before .if1 .left) (omega arith)
+    (sym (remainder (c .before .before)) ∙ c .before .if3 .left) (omega arith))
 
 returns-5 : tie.Need-returns-5
 returns-5 c =
-    let c4 = c .before .before .before .before in
-    let c8 = c4 .before .before .before .before in
-    let a = c8 .args in
+    let c3 = c .before .before .before in
+    let c6 = c3 .before .before .before in
+    let a = c6 .before .args in
     ap (λ (v : ℕ). Refused (Unsound v)) (c .narrow .ensures)
-    ∙ sym (write-unsound (a .rows) (a .cells) (a .n) (a .unsound) (a .room) (c4 .before .before .before .if1 .left)
-    (omega arith)
-    (sym (remainder (c4 .before)) ∙ c4 .if3 .left) (omega arith) (omega arith))
+    ∙ sym (write-unsound (a .rows) (a .cells) (a .n) (a .unsound) (a .room) (c6 .if1 .left) (omega arith)
+    (sym (remainder (c3 .before)) ∙ c3 .if3 .left) (omega arith) (omega arith))
 
 returns-6 : tie.Need-returns-6
 returns-6 c =
     let c4 = c .before .before .before .before in
-    let c8 = c4 .before .before .before .before in
-    let a = c8 .before .args in
+    let c7 = c4 .before .before .before in
+    let a = c7 .before .args in
     ap (λ (v : ℕ). Refused (Room v)) (c .narrow2 .ensures)
-    ∙ sym (write-room (a .rows) (a .cells) (a .n) (a .unsound) (a .room) (c8 .if1 .left) (omega arith)
-    (sym (remainder (c4 .before .before)) ∙ c4 .before .if3 .left) (omega arith) (omega arith) (omega arith))
+    ∙ sym (write-room (a .rows) (a .cells) (a .n) (a .unsound) (a .room) (c7 .if1 .left) (omega arith)
+    (sym (remainder (c4 .before)) ∙ c4 .if3 .left) (omega arith) (omega arith) (omega arith))
 
 returns-7 : tie.Need-returns-7
 returns-7 c =
     let c4 = c .before .before .before .before in
-    let c8 = c4 .before .before .before .before in
-    let a = c8 .before .args in
+    let c7 = c4 .before .before .before in
+    let a = c7 .before .args in
     ap Bytes (c .narrow3 .ensures)
-    ∙ sym (write-bytes (a .rows) (a .cells) (a .n) (a .unsound) (a .room) (c8 .if1 .left) (omega arith)
-    (sym (remainder (c4 .before .before)) ∙ c4 .before .if3 .left) (omega arith) (omega arith) (omega arith))
+    ∙ sym (write-bytes (a .rows) (a .cells) (a .n) (a .unsound) (a .room) (c7 .if1 .left) (omega arith)
+    (sym (remainder (c4 .before)) ∙ c4 .if3 .left) (omega arith) (omega arith) (omega arith))
 
 pub plan-spec : {M : Type 1} → statement M
 plan-spec =
@@ -80,7 +79,6 @@ plan-spec =
     (λ c κs. search needs)
     (λ c. search needs)
     returns-3
-    (λ c κs. search needs)
     returns-4
     (λ c κs. search needs)
     returns-5
