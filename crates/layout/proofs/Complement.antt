@@ -1,6 +1,5 @@
 -- Laws of two's complement: the one file that unfolds `bitsOf` and `signedOf`.
 --     bits-level       the bits of a height are its level moved by 2^31, modulo 2^32
---     bits-below       they are below 2^32
 --     signed-bits      the number with the bits of z is z
 --     bits-signed      the bits of the number with the bits w are w
 --     signed-level     a height whose level is w moved by 2^31 is the number with the bits w
@@ -20,11 +19,6 @@ pub bits-level : {z : ℤ} → SFits w32 z → bitsOf z ≡ (levelOf z + 2147483
 unfolding bitsOf levelOf
 bits-level {z = pos n} f = let h = f .sfits in omega arith
 bits-level {z = negsuc n} f = let h = f .sfits in omega arith
-
-pub bits-below : {z : ℤ} → SFits w32 z → bitsOf z < 4294967296
-unfolding bitsOf
-bits-below {z = pos n} f = let h = f .sfits in omega arith
-bits-below {z = negsuc n} f = omega arith
 
 signed-low : (w : ℕ) → w < 2147483648 → signedOf w ≡ pos w
 unfolding signedOf

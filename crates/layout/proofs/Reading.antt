@@ -8,23 +8,25 @@
 --     read-readable, read-same       so it is where the answer is a run, and the run is the file's
 --     judged                         a refusal before 12 holds whatever the records are
 -- Assumes nothing.
-use mathlib.Core.Bool.{Bool, true, false, not, _||_}
+use mathlib.Core.Bool.{Bool, true, false, not, cond}
 use mathlib.Core.List.{List}
 use mathlib.Core.Path.{_≡_, refl, sym, _∙_}
 use Prim.Native.Nat.{ℕ, _+_, _*_, _≤_, _<_}
 use native.Mathlib.Omega.{arith}
-use borrow.Author.Tests.{lt-ltb, le-ltb, eq-eqb, ne-eqb, ltb-false, eqb-true, eqb-false, not-false}
+use borrow.Author.Tests.{lt-ltb, le-ltb, eq-eqb, ne-eqb, ltb-false, eqb-true, not-false}
 use lib.Dec.{eqb, ltb}
 use lib.ListN.{length}
+use Rattle.relief.proofs.Deciding.{or-false}
 use Rattle.words.specs.Words.{wordAt}
 use Rattle.record.specs.declared.Refusal.{Refusal}
 use Rattle.record.specs.declared.Refusal.the-variants.{Rows, Cells, Table, FileLength, FileCounts, Unsound, Room}
+use Rattle.record.specs.Refusals.{badRows}
+use Rattle.record.proofs.Refusals.{rows-none, rows-many, rows-right, rows-known}
 use Rattle.layout.specs.declared.ReadBack.{ReadBack}
 use Rattle.layout.specs.declared.ReadBack.the-variants.{Run, Refused}
 use Rattle.layout.specs.Layout.{totalOf, rowsIn, columnsIn, peaksIn, cellsIn, heightsIn, recordsIn}
-use Rattle.layout.specs.Reading.{refuse, miscounted, readOf, Judges}
+use Rattle.layout.specs.Reading.{miscounted, readOf, Judges}
 use Rattle.layout.proofs.Sounding.{first-total}
-use Rattle.layout.proofs.Writing.{either-false}
 
 -- ---- test by test
 
@@ -47,41 +49,31 @@ module _ (f : List ℕ) (heights table u : ℕ) where
 
   pub read-none : 24 ≤ length f → rowsIn f ≡ 0 → readOf f heights table u ≡ Refused Rows
   unfolding readOf
-  read-none long e = rw (le-ltb (length f) 24 long, eq-eqb (rowsIn f) 0 e)
+  read-none long e = rw (le-ltb (length f) 24 long, rows-none e)
 
   pub read-many : 24 ≤ length f → 1024 < rowsIn f → readOf f heights table u ≡ Refused Rows
   unfolding readOf
-  read-many long h = rw (le-ltb (length f) 24 long, ne-eqb (rowsIn f) 0 (omega arith), lt-ltb 1024 (rowsIn f) h)
+  read-many long h = rw (le-ltb (length f) 24 long, rows-many h)
 
   pub read-cells :
       24 ≤ length f → (rowsIn f ≡ 0 → ⊥) → rowsIn f ≤ 1024 → 1048576 < cellsIn f →
       readOf f heights table u ≡ Refused Cells
   unfolding readOf
   read-cells long some few h =
-      rw (
-        le-ltb (length f) 24 long,
-        ne-eqb (rowsIn f) 0 some,
-        le-ltb 1024 (rowsIn f) few,
-        lt-ltb 1048576 (cellsIn f) h,
-      )
+      rw (le-ltb (length f) 24 long, rows-right some few, lt-ltb 1048576 (cellsIn f) h)
 
   module _ (g : Gridded f) where
     -- The answer from 11 on.
     gridded :
         readOf f heights table u
-        ≡ refuse (miscounted f (cellsIn f) (peaksIn f)) FileCounts
-        (refuse (not (eqb (length f) (wordAt f 5))) FileLength
-        (refuse (ltb u (peaksIn f)) (Unsound u)
-        (refuse (ltb heights (cellsIn f)) (Room (cellsIn f))
-        (refuse (ltb table (peaksIn f)) (Table (peaksIn f)) (Run (rowsIn f) (columnsIn f) (peaksIn f))))))
+        ≡ cond (miscounted f (cellsIn f) (peaksIn f)) (Refused FileCounts)
+        (cond (not (eqb (length f) (wordAt f 5))) (Refused FileLength)
+        (cond (ltb u (peaksIn f)) (Refused (Unsound u))
+        (cond (ltb heights (cellsIn f)) (Refused (Room (cellsIn f)))
+        (cond (ltb table (peaksIn f)) (Refused (Table (peaksIn f))) (Run (rowsIn f) (columnsIn f) (peaksIn f))))))
     unfolding readOf
     gridded =
-        rw (
-          le-ltb (length f) 24 (g .long),
-          ne-eqb (rowsIn f) 0 (g .some),
-          le-ltb 1024 (rowsIn f) (g .few),
-          le-ltb 1048576 (cellsIn f) (g .fit),
-        )
+        rw (le-ltb (length f) 24 (g .long), rows-right (g .some) (g .few), le-ltb 1048576 (cellsIn f) (g .fit))
 
     pub read-counts : miscounted f (cellsIn f) (peaksIn f) ≡ true → readOf f heights table u ≡ Refused FileCounts
     read-counts e = gridded ∙ rw e
@@ -95,9 +87,9 @@ module _ (f : List ℕ) (heights table u : ℕ) where
     -- The answer from 12 on.
     whole :
         readOf f heights table u
-        ≡ refuse (ltb u (peaksIn f)) (Unsound u)
-        (refuse (ltb heights (cellsIn f)) (Room (cellsIn f))
-        (refuse (ltb table (peaksIn f)) (Table (peaksIn f)) (Run (rowsIn f) (columnsIn f) (peaksIn f))))
+        ≡ cond (ltb u (peaksIn f)) (Refused (Unsound u))
+        (cond (ltb heights (cellsIn f)) (Refused (Room (cellsIn f)))
+        (cond (ltb table (peaksIn f)) (Refused (Table (peaksIn f))) (Run (rowsIn f) (columnsIn f) (peaksIn f))))
     whole = gridded (w .grid) ∙ rw (w .counted, eq-eqb (length f) (wordAt f 5) (w .total))
 
     pub read-unsound : u < peaksIn f → readOf f heights table u ≡ Refused (Unsound u)
@@ -137,9 +129,9 @@ counted-right f cells n c =
 pub counted-not : (f : List ℕ) (cells n : ℕ) → miscounted f cells n ≡ false → Counted f cells n
 unfolding miscounted
 counted-not f cells n e =
-    let p3 = either-false _ (not (eqb (wordAt f 5) (totalOf cells n))) e in
-    let p2 = either-false _ (not (eqb (wordAt f 4) (24 + 4 * cells))) (p3 .0) in
-    let p1 = either-false (ltb cells n) (not (eqb (wordAt f 3) 24)) (p2 .0) in
+    let p3 = or-false _ (not (eqb (wordAt f 5) (totalOf cells n))) e in
+    let p2 = or-false _ (not (eqb (wordAt f 4) (24 + 4 * cells))) (p3 .0) in
+    let p1 = or-false (ltb cells n) (not (eqb (wordAt f 3) 24)) (p2 .0) in
     record {
       few = ltb-false cells n (p1 .0);
       heights = eqb-true (wordAt f 3) 24 (not-false (eqb (wordAt f 3) 24) (p1 .1));
@@ -161,7 +153,7 @@ pub record Readable (f : List ℕ) (heights table u : ℕ) : Type 0 where
   pub table-room : peaksIn f ≤ table
 
 passed :
-    (t : Bool) (r : Refusal) (a : ReadBack) {b c d : ℕ} → refuse t r a ≡ Run b c d → (t ≡ false) × (a ≡ Run b c d)
+    (t : Bool) (r : Refusal) (a : ReadBack) {b c d : ℕ} → cond t (Refused r) a ≡ Run b c d → (t ≡ false) × (a ≡ Run b c d)
 passed true r a e = let z : _≡_ {A = ℕ} 0 1 = cc in absurd (omega arith)
 passed false r a e = (refl, e)
 
@@ -171,18 +163,18 @@ module _ (f : List ℕ) (heights table u : ℕ) {rows columns peaks : ℕ}
   unfolding readOf
   read-readable =
       let p1 = passed (ltb (length f) 24) FileLength _ e in
-      let p2 = passed (eqb (rowsIn f) 0 || ltb 1024 (rowsIn f)) Rows _ (p1 .1) in
+      let p2 = passed (badRows (rowsIn f)) Rows _ (p1 .1) in
       let p3 = passed (ltb 1048576 (cellsIn f)) Cells _ (p2 .1) in
       let p4 = passed (miscounted f (cellsIn f) (peaksIn f)) FileCounts _ (p3 .1) in
       let p5 = passed (not (eqb (length f) (wordAt f 5))) FileLength _ (p4 .1) in
       let p6 = passed (ltb u (peaksIn f)) (Unsound u) _ (p5 .1) in
       let p7 = passed (ltb heights (cellsIn f)) (Room (cellsIn f)) _ (p6 .1) in
       let p8 = passed (ltb table (peaksIn f)) (Table (peaksIn f)) _ (p7 .1) in
-      let rows-good = either-false (eqb (rowsIn f) 0) (ltb 1024 (rowsIn f)) (p2 .0) in
+      let (some, few) = rows-known (rowsIn f) (p2 .0) in
       record {
         long = ltb-false (length f) 24 (p1 .0);
-        some = eqb-false (rowsIn f) 0 (rows-good .0);
-        few = ltb-false 1024 (rowsIn f) (rows-good .1);
+        some = some;
+        few = few;
         fit = ltb-false 1048576 (cellsIn f) (p3 .0);
         counted = counted-not f (cellsIn f) (peaksIn f) (p4 .0);
         total = eqb-true (length f) (wordAt f 5) (not-false (eqb (length f) (wordAt f 5)) (p5 .0));

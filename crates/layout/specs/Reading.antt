@@ -1,29 +1,22 @@
 -- What reading answers: sections "Run file" and "What comes back" of document 01.
---     refuse test r a                              the refusal r where the test holds, else the answer a
 --     miscounted f cells n                         the header of f is not that of so many cells and records
 --     readOf f heights table unsound               the answer to a file, for so many lent heights and table entries
 --     Judges f heights table a                     a is that answer, at the index of the first unsound record
 --     lentOf answer new old                        a lent row at the answer: new on success, old at a refusal
 -- Assumes nothing.
-use mathlib.Core.Bool.{Bool, true, false, not, _||_}
-use mathlib.Core.List.{List, _++_}
+use mathlib.Core.Bool.{Bool, not, _||_, cond}
+use mathlib.Core.List.{List}
 use mathlib.Core.Path.{_≡_}
 use Prim.Native.Nat.{ℕ, _+_, _*_}
 use lib.Dec.{eqb, ltb}
-use lib.IntN.{ℤ}
-use lib.ListN.{length, drop}
+use lib.ListN.{length}
 use Rattle.words.specs.Words.{wordAt}
-use Rattle.record.specs.declared.Peak.{Peak}
-use Rattle.record.specs.declared.Refusal.{Refusal}
 use Rattle.record.specs.declared.Refusal.the-variants.{Rows, Cells, Table, FileLength, FileCounts, Unsound, Room}
+use Rattle.record.specs.Refusals.{badRows}
 use Rattle.layout.specs.declared.ReadBack.{ReadBack}
 use Rattle.layout.specs.declared.ReadBack.the-variants.{Run, Refused}
 use Rattle.layout.specs.Layout.{totalOf, rowsIn, columnsIn, peaksIn, cellsIn, heightsIn, recordsIn}
 use Rattle.layout.specs.Sound.{FirstUnsound}
-
-abbrev pub refuse : Bool → Refusal → ReadBack → ReadBack
-refuse true r a = Refused r
-refuse false r a = a
 
 -- "n above the cell count, or an offset or total not as computed"
 unfoldable pub miscounted : List ℕ → ℕ → ℕ → Bool
@@ -34,14 +27,22 @@ miscounted f cells n =
 -- "Read file: 10 (under 24 bytes), 1, 3, 11, 10 (total), 12, 13, 5."
 unfoldable pub readOf : List ℕ → ℕ → ℕ → ℕ → ReadBack
 readOf f heights table unsound =
-    refuse (ltb (length f) 24) FileLength
-    (refuse (eqb (rowsIn f) 0 || ltb 1024 (rowsIn f)) Rows
-    (refuse (ltb 1048576 (cellsIn f)) Cells
-    (refuse (miscounted f (cellsIn f) (peaksIn f)) FileCounts
-    (refuse (not (eqb (length f) (wordAt f 5))) FileLength
-    (refuse (ltb unsound (peaksIn f)) (Unsound unsound)
-    (refuse (ltb heights (cellsIn f)) (Room (cellsIn f))
-    (refuse (ltb table (peaksIn f)) (Table (peaksIn f))
+    -- "file under 24 bytes"
+    cond (ltb (length f) 24) (Refused FileLength)
+    -- "rows are 0 or above 1,024"
+    (cond (badRows (rowsIn f)) (Refused Rows)
+    -- "more than 1,048,576 cells"
+    (cond (ltb 1048576 (cellsIn f)) (Refused Cells)
+    -- "n above the cell count, or an offset or total not as computed"
+    (cond (miscounted f (cellsIn f) (peaksIn f)) (Refused FileCounts)
+    -- "its length is not the stored total"
+    (cond (not (eqb (length f) (wordAt f 5))) (Refused FileLength)
+    -- "a record is not sound"; also returns "index of the first such record"
+    (cond (ltb unsound (peaksIn f)) (Refused (Unsound unsound))
+    -- "room too short for [..] the heights"; also returns the "heights needed"
+    (cond (ltb heights (cellsIn f)) (Refused (Room (cellsIn f)))
+    -- "peak table too short"; also returns "the number of records needed"
+    (cond (ltb table (peaksIn f)) (Refused (Table (peaksIn f)))
     (Run (rowsIn f) (columnsIn f) (peaksIn f)))))))))
 
 -- "A refusal [..] writes nothing".

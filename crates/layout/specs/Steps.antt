@@ -12,7 +12,7 @@
 --     Takable ps f cells count, filled         the table ps takes so many of the records of f; ps with them
 --     putOf, cellsToTake, recordsToTake        how many an answer says are to be put or taken
 -- Assumes nothing.
-use mathlib.Core.Bool.{Bool, true, false}
+use mathlib.Core.Bool.{Bool, true, false, cond}
 use mathlib.Core.List.{List, _++_, map}
 use mathlib.Core.Path.{_≡_}
 use Prim.Native.Nat.{ℕ, _+_, _-_, _*_, _≤_, _<_}
@@ -20,7 +20,6 @@ use lib.Dec.{ltb}
 use lib.IntN.{ℤ}
 use lib.ListN.{length, getD, take, drop}
 use Rattle.relief.specs.Heights.{BLANK}
-use Rattle.words.specs.Area.{pick}
 use Rattle.record.specs.declared.Peak.{Peak}
 use Rattle.layout.specs.declared.Written.{Written}
 use Rattle.layout.specs.declared.Written.the-variants as written
@@ -56,7 +55,7 @@ pub record Scans (heights : List ℤ) (state i : ℕ) (p : Peak) (r : ℕ) : Typ
   pub unsound : state < STOPPED → (Sound heights state p → ⊥) → r ≡ STOPPED + i
 
 abbrev pub scannedOf : ℕ → ℕ → ℕ
-scannedOf state n = pick (ltb state STOPPED) n (state - STOPPED)
+scannedOf state n = cond (ltb state STOPPED) n (state - STOPPED)
 
 -- Sound records have cells that rise, so there are no more of them than cells.
 pub record Few (cells n unsound : ℕ) : Type 0 where

@@ -22,6 +22,7 @@ use Rattle.record.specs.declared.Peak.{Peak}
 use Rattle.record.specs.declared.Refusal.{Refusal}
 use Rattle.record.specs.declared.Refusal.the-variants.{Rows, Length, Cells, Work, Table}
 use Rattle.record.specs.Records.{recordOf}
+use Rattle.record.proofs.Refusals.{rows-none, rows-many, rows-right}
 use Rattle.words.specs.Area.{levelIn}
 use Rattle.sweep.specs.Taking.{cut}
 use Rattle.table.specs.Table.{Counted, recordsIn, Fillable}
@@ -59,8 +60,7 @@ module _ (rows cells work room : ℕ) (some : rows ≡ 0 → ⊥) (few : rows �
   answer-short : room < k → Refused (Table k) ≡ listAnswer rows cells work room k
   unfolding listAnswer
   answer-short l = simp (
-    ne-eqb rows 0 some,
-    le-ltb 1024 rows few,
+    rows-right some few,
     eq-eqb (cells % rows) 0 whole,
     le-ltb 1048576 cells fits,
     le-ltb work (16 * cells) space,
@@ -70,8 +70,7 @@ module _ (rows cells work room : ℕ) (some : rows ≡ 0 → ⊥) (few : rows �
   answer-count : k ≤ room → Count k ≡ listAnswer rows cells work room k
   unfolding listAnswer
   answer-count l = simp (
-    ne-eqb rows 0 some,
-    le-ltb 1024 rows few,
+    rows-right some few,
     eq-eqb (cells % rows) 0 whole,
     le-ltb 1048576 cells fits,
     le-ltb work (16 * cells) space,
@@ -94,26 +93,25 @@ module _ {rows : ℕ} {heights : List ℤ} {T work room : ℕ} {left : List ℕ}
 
   pub flat-no-rows : rows ≡ 0 → Flat rows heights T work room left (Refused Rows)
   unfolding listAnswer
-  flat-no-rows e = refused-early (λ k. simp (eq-eqb rows 0 e))
+  flat-no-rows e = refused-early (λ k. simp (rows-none e))
 
   module _ (some : rows ≡ 0 → ⊥) where
     pub flat-many-rows : 1024 < rows → Flat rows heights T work room left (Refused Rows)
     unfolding listAnswer
-    flat-many-rows l = refused-early (λ k. simp (ne-eqb rows 0 some, lt-ltb 1024 rows l))
+    flat-many-rows l = refused-early (λ k. simp (rows-many l))
 
     module _ (few : rows ≤ 1024) where
       pub flat-length : (length heights % rows ≡ 0 → ⊥) → Flat rows heights T work room left (Refused Length)
       unfolding listAnswer
       flat-length d =
-          refused-early (λ k. simp (ne-eqb rows 0 some, le-ltb 1024 rows few, ne-eqb (length heights % rows) 0 d))
+          refused-early (λ k. simp (rows-right some few, ne-eqb (length heights % rows) 0 d))
 
       module _ (whole : length heights % rows ≡ 0) where
         pub flat-cells : 1048576 < length heights → Flat rows heights T work room left (Refused Cells)
         unfolding listAnswer
         flat-cells l =
             refused-early (λ k. simp (
-              ne-eqb rows 0 some,
-              le-ltb 1024 rows few,
+              rows-right some few,
               eq-eqb (length heights % rows) 0 whole,
               lt-ltb 1048576 (length heights) l,
             ))
@@ -123,8 +121,7 @@ module _ {rows : ℕ} {heights : List ℤ} {T work room : ℕ} {left : List ℕ}
           unfolding listAnswer
           flat-work l =
               refused-early (λ k. simp (
-                ne-eqb rows 0 some,
-                le-ltb 1024 rows few,
+                rows-right some few,
                 eq-eqb (length heights % rows) 0 whole,
                 le-ltb 1048576 (length heights) fits,
                 lt-ltb work (16 * length heights) l,

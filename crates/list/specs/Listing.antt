@@ -5,7 +5,7 @@
 --     Flat              the promise of the call without the row: what is left in the work area
 -- Assumes nothing.
 use mathlib.Core.Path.{_≡_}
-use mathlib.Core.Bool.{Bool, true, false, not}
+use mathlib.Core.Bool.{not, cond}
 use mathlib.Core.List.{List, _++_, map}
 use Prim.Native.Nat.{ℕ, _*_, _%_, _≤_}
 use lib.Dec.{eqb, ltb}
@@ -14,31 +14,27 @@ use lib.ListN.{length, drop}
 use Rattle.relief.specs.Heights.{levels}
 use Rattle.relief.specs.Peaks.{Entry, ListOf}
 use Rattle.relief.specs.Plane.{Plane}
-use Rattle.relief.proofs.Deciding.{either}
 use Rattle.record.specs.declared.Peak.{Peak}
 use Rattle.record.specs.declared.Refusal.the-variants.{Rows, Length, Cells, Work, Table}
 use Rattle.record.specs.Records.{recordOf}
+use Rattle.record.specs.Refusals.{badRows}
 use Rattle.table.specs.Table.{Counted, recordsIn}
 use Rattle.list.specs.declared.Listed.{Listed}
 use Rattle.list.specs.declared.Listed.the-variants.{Count, Refused}
-
-abbrev pub pickListed : Bool → Listed → Listed → Listed
-pickListed true a b = a
-pickListed false a b = b
 
 -- "List: 1, 2, 3, 4, 5." `work` is in bytes, 16 for "4 numbers of 32 bits per cell". `room` and `needed` count records.
 unfoldable pub listAnswer : ℕ → ℕ → ℕ → ℕ → ℕ → Listed
 listAnswer rows cells work room needed =
     -- "rows are 0 or above 1,024"
-    pickListed (either (eqb rows 0) (ltb 1024 rows)) (Refused Rows)
+    cond (badRows rows) (Refused Rows)
     -- "length of heights is no multiple of rows"
-    (pickListed (not (eqb (cells % rows) 0)) (Refused Length)
+    (cond (not (eqb (cells % rows) 0)) (Refused Length)
     -- "more than 1,048,576 cells"
-    (pickListed (ltb 1048576 cells) (Refused Cells)
+    (cond (ltb 1048576 cells) (Refused Cells)
     -- "work area below 4 numbers of 32 bits per cell"
-    (pickListed (ltb work (16 * cells)) (Refused Work)
+    (cond (ltb work (16 * cells)) (Refused Work)
     -- "peak table too short"; also returns "the number of records needed"
-    (pickListed (ltb room needed) (Refused (Table needed)) (Count needed)))))
+    (cond (ltb room needed) (Refused (Table needed)) (Count needed)))))
 
 -- "A refusal [..] writes nothing"; "On success table entries [..] beyond those counted stay as they were."
 abbrev pub listTable : Listed → List Peak → List Peak → List Peak

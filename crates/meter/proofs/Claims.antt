@@ -3,8 +3,7 @@
 -- Assumes nothing.
 use mathlib.Core.Path.{_≡_, sym, _∙_, ap, ap₂}
 use mathlib.Core.List.{List, _++_}
-use Prim.Native.Nat.{ℕ, _*_, _/_}
-use lib.IntN.{ℤ}
+use Prim.Native.Nat.{_*_, _/_}
 use lib.ListN.{length, drop}
 use Rattle.relief.specs.Peaks.{Entry}
 use Rattle.relief.proofs.Listing.{order-unique}

@@ -2,7 +2,7 @@
 --     minus-fits, minus-read     minus a number below 2^32 fits, and comes back from its bits
 --     count-read                 so does such a number
 -- Assumes nothing.
-use mathlib.Core.Path.{_≡_, ap, _∙_}
+use mathlib.Core.Path.{_≡_, ap}
 use Prim.Native.Nat.{ℕ, zero, suc, _-_, _<_}
 use native.Mathlib.Omega.{arith}
 use borrow.Author.Tests.{lt-ltb}

@@ -1,9 +1,12 @@
 -- Refusals: the table "What comes back" of document 01.
 --     Told           what a refusal tells the caller: its number, and the values that it also returns
 --     toldOf r       what the refusal r tells
+--     badRows n      what refusal 1 says of a number of rows, as every call does
 -- Assumes nothing.
+use mathlib.Core.Bool.{Bool, _||_}
 use mathlib.Core.List.{List, [], _∷_}
 use Prim.Native.Nat.{ℕ}
+use lib.Dec.{eqb, ltb}
 use Rattle.record.specs.declared.Refusal.{Refusal}
 use Rattle.record.specs.declared.Refusal.the-variants.{Rows, Length, Cells, Work, Table, Ended}
 use Rattle.record.specs.declared.Refusal.the-variants.{ColumnLength, GridFull, TakenCells, FileLength}
@@ -40,3 +43,7 @@ toldOf FileCounts = record { number = 11; values = [] }
 toldOf (Unsound index) = record { number = 12; values = index ∷ [] }
 -- "room too short for the file (writing) or the heights (reading)"; also returns "bytes or heights needed"
 toldOf (Room needed) = record { number = 13; values = needed ∷ [] }
+
+-- "rows are 0 or above 1,024"
+abbrev pub badRows : ℕ → Bool
+badRows rows = eqb rows 0 || ltb 1024 rows

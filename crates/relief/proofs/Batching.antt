@@ -5,7 +5,7 @@
 --     surveyBatch, surveyRest   what a column call and End hand out
 -- Assumes nothing.
 use mathlib.Core.Path.{_≡_, refl, _∙_, ap, subst}
-use mathlib.Core.Bool.{Bool, not}
+use mathlib.Core.Bool.{Bool, not, _&&_}
 use mathlib.Core.List.{List}
 use mathlib.Core.Logic.{_⊎_, inl, inr}
 use Prim.Native.Nat.{ℕ}
@@ -17,11 +17,10 @@ use Rattle.relief.proofs.Deciding.{
   split,
   Decides,
   decide,
-  both,
   allBelow,
   le-or-lt,
   lt-decides,
-  both-decides,
+  and-decides,
   not-decides,
   all-decides,
   decides-iff,
@@ -52,15 +51,15 @@ module _ (touch? : ℕ → ℕ → Bool) where
 
   unfoldable pub closed? : Stage → ℕ → Bool
   closed? s x =
-      both (peak? touch? (s .level) (s .cells) x)
-      (allBelow (s .cells)
-      (λ c. implies (island? touch? (s .level) (s .cells) x (floorOf (entryIn s x .key)) c) (ltb c (s .newest))))
+      peak? touch? (s .level) (s .cells) x
+      && allBelow (s .cells)
+      (λ c. implies (island? touch? (s .level) (s .cells) x (floorOf (entryIn s x .key)) c) (ltb c (s .newest)))
 
   abbrev remaining? : Stage → ℕ → ℕ → Bool
-  remaining? s T x = both (listed? touch? (s .level) (s .cells) T x) (not (closed? s x))
+  remaining? s T x = listed? touch? (s .level) (s .cells) T x && not (closed? s x)
 
   abbrev closing? : Stage → Stage → ℕ → ℕ → Bool
-  closing? s s′ T x = both (listed? touch? (s′ .level) (s′ .cells) T x) (both (closed? s′ x) (not (closed? s x)))
+  closing? s s′ T x = listed? touch? (s′ .level) (s′ .cells) T x && (closed? s′ x && not (closed? s x))
 
   unfoldable pub surveyRest : Stage → ℕ → List Entry
   surveyRest s T = collect (s .cells) 0 (remaining? s T) (entryIn s)
@@ -78,7 +77,7 @@ module _ {touch : ℕ → ℕ → Type 0} {touch? : ℕ → ℕ → Bool} {s : S
         away = λ c w l. let m = h .1 c (land-below t c (let i = way-end w in omega arith)) w in omega arith;
       })
       (λ h. (h .right .peak, λ c l w. split (le-or-lt (s .newest) c) (λ m. absurd (h .away c w m)) (λ m. m)))
-      (both-decides (peak-decides t x)
+      (and-decides (peak-decides t x)
       (all-decides
       (λ c. implies-decides (island-decides t x (floorOf (entryIn touch? s x .key)) c) (λ w. lt-decides c (s .newest)))
       (s .cells)))
@@ -104,7 +103,7 @@ module _ {touch : ℕ → ℕ → Type 0} {touch? : ℕ → ℕ → Bool} {s : S
           decides-iff
           (λ h. record { listed = h .0; still = record { right = h .0 .right; unclosed = h .1 } })
           (λ h. (h .listed, h .still .unclosed))
-          (both-decides (listed-decides t T x) (not-decides (closed-decides x)))
+          (and-decides (listed-decides t T x) (not-decides (closed-decides x)))
 
 module _ {touch : ℕ → ℕ → Type 0} {touch? : ℕ → ℕ → Bool} {s s′ : Stage}
     (t : Staged touch touch? s) (t′ : Staged touch touch? s′) where
@@ -125,4 +124,4 @@ module _ {touch : ℕ → ℕ → Type 0} {touch? : ℕ → ℕ → Bool} {s s�
                 (subst (Closed touch s) (entryAt-only t d (c .right) ∙ ap (entryIn touch? s) e) c);
           })
           (λ h. (h .listed, (h .closed, λ c. h .unclosed (entryIn touch? s x) refl c)))
-          (both-decides (listed-decides t′ T x) (both-decides (closed-decides t′ x) (not-decides (closed-decides t x))))
+          (and-decides (listed-decides t′ T x) (and-decides (closed-decides t′ x) (not-decides (closed-decides t x))))

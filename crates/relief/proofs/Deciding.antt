@@ -1,13 +1,13 @@
 -- Tests that compute, and what they decide: each test of this crate is a Bool with a law that says what it tells.
 --     split s f g              goes by the two cases of a sum
 --     Decides A b              the test b tells whether A holds
---     both, either, not        decide a pair, a sum, a negation
+--     and, or, not             decide a pair, a sum, a negation
 --     anyBelow n f, allBelow   decide whether some or each number below n passes the test f
 --     firstFrom k i f          the first of the k numbers from i on that passes, or i + k
 --     topBelow n f v           the greatest v i of those i below n that pass, or 0
 -- Assumes nothing.
 use mathlib.Core.Path.{_≡_, refl, sym, ap, _∙_, subst}
-use mathlib.Core.Bool.{Bool, true, false, not}
+use mathlib.Core.Bool.{Bool, true, false, not, _&&_, _||_}
 use mathlib.Core.Logic.{_⊎_, inl, inr}
 use Prim.Native.Nat.{ℕ, zero, suc, max, _+_, _≤_, _<_, zero-le}
 use native.Mathlib.Nat.{not-suc-le-zero}
@@ -58,30 +58,30 @@ lt-decides a b = record { holds = ltb-true a b; fails = λ e h. let g : b ≤ a 
 
 -- ---- tests of tests
 
-abbrev pub both : Bool → Bool → Bool
-both true b = b
-both false b = false
+pub and-true : (a b : Bool) → (a && b) ≡ true → (a ≡ true) × (b ≡ true)
+and-true true b e = (refl, e)
+and-true false b e = true-not-false e refl
 
-abbrev pub either : Bool → Bool → Bool
-either true b = true
-either false b = b
+pub or-false : (a b : Bool) → (a || b) ≡ false → (a ≡ false) × (b ≡ false)
+or-false true b e = true-not-false refl e
+or-false false b e = (refl, e)
 
-pub both-decides : {A B : Type 0} {a b : Bool} → Decides A a → Decides B b → Decides (A × B) (both a b)
-both-decides {a = true} p q = record {
+pub and-decides : {A B : Type 0} {a b : Bool} → Decides A a → Decides B b → Decides (A × B) (a && b)
+and-decides {a = true} p q = record {
   holds = λ e. (p .holds refl, q .holds e);
   fails = λ e h. q .fails e (h .1);
 }
-both-decides {a = false} p q = record {
+and-decides {a = false} p q = record {
   holds = λ e. true-not-false e refl;
   fails = λ e h. p .fails refl (h .0);
 }
 
-pub either-decides : {A B : Type 0} {a b : Bool} → Decides A a → Decides B b → Decides (A ⊎ B) (either a b)
-either-decides {a = true} p q = record {
+pub or-decides : {A B : Type 0} {a b : Bool} → Decides A a → Decides B b → Decides (A ⊎ B) (a || b)
+or-decides {a = true} p q = record {
   holds = λ e. inl (p .holds refl);
   fails = λ e. true-not-false refl e;
 }
-either-decides {a = false} p q = record {
+or-decides {a = false} p q = record {
   holds = λ e. inr (q .holds e);
   fails = λ e s. split s (p .fails refl) (q .fails e);
 }
@@ -99,11 +99,11 @@ decides-iff f g d = record { holds = λ e. f (d .holds e); fails = λ e h. d .fa
 
 abbrev pub anyBelow : ℕ → (ℕ → Bool) → Bool
 anyBelow zero f = false
-anyBelow (suc n) f = either (f n) (anyBelow n f)
+anyBelow (suc n) f = f n || anyBelow n f
 
 abbrev pub allBelow : ℕ → (ℕ → Bool) → Bool
 allBelow zero f = true
-allBelow (suc n) f = both (f n) (allBelow n f)
+allBelow (suc n) f = f n && allBelow n f
 
 abbrev pub firstFrom : ℕ → ℕ → (ℕ → Bool) → ℕ
 firstFrom zero i f = i
@@ -127,7 +127,7 @@ below-suc i n h = go (ℕ-discrete i n)
 module _ {P : ℕ → Type 0} {f : ℕ → Bool} (d : (i : ℕ) → Decides (P i) (f i)) where
   pub any-decides : (n : ℕ) → Decides ((i : ℕ) × (i < n) × P i) (anyBelow n f)
   any-decides zero = record { holds = λ e. true-not-false e refl; fails = λ e s. absurd (not-suc-le-zero (s .1)) }
-  any-decides (suc n) = decides-iff some part (either-decides (d n) (any-decides n))
+  any-decides (suc n) = decides-iff some part (or-decides (d n) (any-decides n))
     where
       some : P n ⊎ ((i : ℕ) × (i < n) × P i) → (i : ℕ) × (i < suc n) × P i
       some s = split s (λ p. (n, omega arith, p)) (λ q. (q .0, omega arith, q .2))
@@ -137,7 +137,7 @@ module _ {P : ℕ → Type 0} {f : ℕ → Bool} (d : (i : ℕ) → Decides (P i
 
   pub all-decides : (n : ℕ) → Decides ((i : ℕ) → i < n → P i) (allBelow n f)
   all-decides zero = record { holds = λ e i h. absurd (not-suc-le-zero h); fails = λ e. true-not-false refl e }
-  all-decides (suc n) = decides-iff all part (both-decides (d n) (all-decides n))
+  all-decides (suc n) = decides-iff all part (and-decides (d n) (all-decides n))
     where
       all : P n × ((i : ℕ) → i < n → P i) → (i : ℕ) → i < suc n → P i
       all q i h = split (below-suc i n h) (λ e. subst P (sym e) (q .0)) (q .1 i)

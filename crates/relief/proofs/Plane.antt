@@ -5,7 +5,7 @@
 --     plane-fence               a cell before the last column touches no cell of a further column
 -- Assumes nothing.
 use mathlib.Core.Path.{_≡_, refl, sym, _∙_, ap}
-use mathlib.Core.Bool.{Bool, not}
+use mathlib.Core.Bool.{Bool, not, _&&_}
 use mathlib.Core.List.{[], _∷_}
 use mathlib.Core.Logic.{_⊎_, inl, inr}
 use Prim.Native.Nat.{ℕ, zero, suc, _+_, _-_, _*_, _≤_, _<_, zero-le}
@@ -17,8 +17,7 @@ use Rattle.relief.specs.Plane.{rowOf, columnOf, Near, Plane}
 use Rattle.relief.proofs.Deciding.{
   split,
   Decides,
-  both,
-  both-decides,
+  and-decides,
   not-decides,
   le-decides,
   eq-decides,
@@ -27,22 +26,22 @@ use Rattle.relief.proofs.Deciding.{
 }
 
 abbrev near? : ℕ → ℕ → Bool
-near? x y = both (leb x (suc y)) (leb y (suc x))
+near? x y = leb x (suc y) && leb y (suc x)
 
 abbrev pub plane? : ℕ → ℕ → ℕ → Bool
 plane? rows a b =
-    both (near? (rowOf rows a) (rowOf rows b)) (both (near? (columnOf rows a) (columnOf rows b)) (not (eqb a b)))
+    near? (rowOf rows a) (rowOf rows b) && (near? (columnOf rows a) (columnOf rows b) && not (eqb a b))
 
 near-decides : (x y : ℕ) → Decides (Near x y) (near? x y)
-near-decides x y = both-decides (le-decides x (suc y)) (le-decides y (suc x))
+near-decides x y = and-decides (le-decides x (suc y)) (le-decides y (suc x))
 
 pub plane-decides : (rows a b : ℕ) → Decides (Plane rows a b) (plane? rows a b)
 plane-decides rows a b =
     decides-iff
     (λ h. record { row = h .0; column = h .1 .0; other = h .1 .1 })
     (λ h. (h .row, (h .column, h .other)))
-    (both-decides (near-decides (rowOf rows a) (rowOf rows b))
-    (both-decides (near-decides (columnOf rows a) (columnOf rows b)) (not-decides (eq-decides a b))))
+    (and-decides (near-decides (rowOf rows a) (rowOf rows b))
+    (and-decides (near-decides (columnOf rows a) (columnOf rows b)) (not-decides (eq-decides a b))))
 
 pub plane-symmetric : (rows a b : ℕ) → Plane rows a b → Plane rows b a
 plane-symmetric rows a b h = record {

@@ -32,7 +32,7 @@ use Rattle.relief.specs.Heights.{BLANK, levelOf, heightOf, levels}
 use Rattle.relief.specs.Peaks.{Island, Entry, floorOf}
 use Rattle.relief.specs.Plane.{rowOf, columnOf, Plane, stageOf}
 use Rattle.relief.specs.Runs.{Open, Further, Growing, KeyKept}
-use Rattle.relief.proofs.Deciding.{split, decide, le-or-lt, le-decides, both-decides, any-decides}
+use Rattle.relief.proofs.Deciding.{split, decide, le-or-lt, le-decides, and-decides, any-decides}
 use Rattle.relief.proofs.Ways.{way-end}
 use Rattle.relief.proofs.Peaking.{Terrain, land-below}
 use Rattle.relief.proofs.Keys.{island-decides}
@@ -109,7 +109,7 @@ module _ (rows columns : ℕ) (heights : List ℤ) (whole : length heights ≡ c
       let t = plane-staged rows columns heights in
       split
       (decide (any-decides
-      (λ c. both-decides (island-decides t (e .cell) (floorOf (e .key)) c) (le-decides (columns * rows - rows) c))
+      (λ c. and-decides (island-decides t (e .cell) (floorOf (e .key)) c) (le-decides (columns * rows - rows) c))
       (columns * rows)))
       (λ h. h)
       (λ n. absurd (o .unclosed (record {

@@ -4,7 +4,7 @@
 -- A way with middle cells below m + 1 is one with middle cells below m, or goes through m and is two of them. What is
 -- reached so is closed under joining at a cell below m: that is all a way of any length needs. Assumes nothing.
 use mathlib.Core.Path.{_≡_, refl, subst}
-use mathlib.Core.Bool.{Bool}
+use mathlib.Core.Bool.{Bool, _&&_, _||_}
 use mathlib.Core.Logic.{_⊎_, inl, inr}
 use Prim.Native.Nat.{ℕ, zero, suc, _<_}
 use native.Mathlib.Nat.{not-suc-le-zero}
@@ -13,10 +13,8 @@ use Rattle.relief.specs.Peaks.{Way, alone, onward}
 use Rattle.relief.proofs.Deciding.{
   split,
   Decides,
-  both,
-  either,
-  both-decides,
-  either-decides,
+  and-decides,
+  or-decides,
   decides-iff,
   eq-decides,
   below-suc,
@@ -24,9 +22,9 @@ use Rattle.relief.proofs.Deciding.{
 use Rattle.relief.proofs.Ways.{way-start, way-trans}
 
 abbrev pub reach : (ℕ → ℕ → Bool) → (ℕ → Bool) → ℕ → ℕ → ℕ → Bool
-reach touch? in? zero a b = both (in? a) (both (in? b) (either (eqb a b) (touch? a b)))
+reach touch? in? zero a b = in? a && (in? b && (eqb a b || touch? a b))
 reach touch? in? (suc m) a b =
-    either (reach touch? in? m a b) (both (reach touch? in? m a m) (reach touch? in? m m b))
+    reach touch? in? m a b || (reach touch? in? m a m && reach touch? in? m m b)
 
 module _ (touch : ℕ → ℕ → Type 0) (In : ℕ → Type 0) where
   -- what `reach` tells
@@ -72,9 +70,9 @@ module _ {touch : ℕ → ℕ → Type 0} {touch? : ℕ → ℕ → Bool} (d : (
   reach-decides : {In : ℕ → Type 0} {in? : ℕ → Bool} → ((c : ℕ) → Decides (In c) (in? c)) → (m a b : ℕ)
       → Decides (Reach touch In m a b) (reach touch? in? m a b)
   reach-decides i zero a b =
-      both-decides (i a) (both-decides (i b) (either-decides (eq-decides a b) (d a b)))
+      and-decides (i a) (and-decides (i b) (or-decides (eq-decides a b) (d a b)))
   reach-decides i (suc m) a b =
-      either-decides (reach-decides i m a b) (both-decides (reach-decides i m a m) (reach-decides i m m b))
+      or-decides (reach-decides i m a b) (and-decides (reach-decides i m a m) (reach-decides i m m b))
 
   pub way-decides : {In : ℕ → Type 0} {in? : ℕ → Bool} → ((c : ℕ) → Decides (In c) (in? c)) → (n : ℕ)
       → ((c : ℕ) → In c → c < n) → (a b : ℕ) → Decides (Way touch In a b) (reach touch? in? n a b)

@@ -5,7 +5,7 @@
 -- The key height of a peak is the greatest level of a cell at or above which a better cell is reached: on an island
 -- above it there is none, since the least level of a way to it would be greater. Assumes nothing.
 use mathlib.Core.Path.{_≡_, refl, subst}
-use mathlib.Core.Bool.{Bool, true, false, not}
+use mathlib.Core.Bool.{Bool, true, false, not, _&&_, _||_}
 use mathlib.Core.List.{List}
 use mathlib.Core.Logic.{_⊎_, inl, inr}
 use Prim.Native.Nat.{ℕ, zero, suc, _-_, _≤_, _<_}
@@ -18,8 +18,6 @@ use Rattle.relief.proofs.Deciding.{
   Decides,
   passes,
   true-not-false,
-  both,
-  either,
   anyBelow,
   allBelow,
   topBelow,
@@ -28,8 +26,8 @@ use Rattle.relief.proofs.Deciding.{
   eq-decides,
   le-decides,
   lt-decides,
-  both-decides,
-  either-decides,
+  and-decides,
+  or-decides,
   any-decides,
   all-decides,
   decides-iff,
@@ -54,24 +52,24 @@ use Rattle.relief.proofs.Listing.{entry-unique, collect, collect-order}
 
 -- where the first test fails, anything follows
 abbrev pub implies : Bool → Bool → Bool
-implies a b = either (not a) b
+implies a b = not a || b
 
 module _ (touch? : ℕ → ℕ → Bool) (level : ℕ → ℕ) (n : ℕ) where
   unfoldable pub peak? : ℕ → Bool
   peak? p =
-      both (ltb 0 (level p))
-      (allBelow n (λ b. implies (flat? touch? level n p b)
-      (both (leb p b) (allBelow n (λ c. implies (touch? b c) (leb (level c) (level p)))))))
+      ltb 0 (level p)
+      && allBelow n (λ b. implies (flat? touch? level n p b)
+      (leb p b && allBelow n (λ c. implies (touch? b c) (leb (level c) (level p)))))
 
   unfoldable pub better? : ℕ → ℕ → Bool
-  better? c x = either (ltb (level x) (level c)) (both (eqb (level c) (level x)) (ltb c x))
+  better? c x = ltb (level x) (level c) || (eqb (level c) (level x) && ltb c x)
 
   -- at or above the floor f the cell x reaches a better one
   unfoldable pub joined? : ℕ → ℕ → Bool
-  joined? x f = anyBelow n (λ g. both (better? g x) (reach touch? (λ c. leb f (level c)) n x g))
+  joined? x f = anyBelow n (λ g. better? g x && reach touch? (λ c. leb f (level c)) n x g)
 
   unfoldable pub keyLevel : ℕ → ℕ
-  keyLevel x = topBelow n (λ c. both (ltb 0 (level c)) (joined? x (level c))) level
+  keyLevel x = topBelow n (λ c. ltb 0 (level c) && joined? x (level c)) level
 
   abbrev keyFrom : (ℕ → ℕ) → ℕ → Key
   keyFrom pass zero = missing
@@ -85,7 +83,7 @@ module _ (touch? : ℕ → ℕ → Bool) (level : ℕ → ℕ) (n : ℕ) where
   wantedKey T height (key k c) = leb T (height - k)
 
   unfoldable pub listed? : ℕ → ℕ → Bool
-  listed? T x = both (peak? x) (wantedKey T (level x) (entryAt x .key))
+  listed? T x = peak? x && wantedKey T (level x) (entryAt x .key)
 
   unfoldable pub survey : ℕ → List Entry
   survey T = collect n 0 (listed? T) entryAt
@@ -103,12 +101,12 @@ implies-decides {a = false} p q = record {
 }
 
 -- `both`, where the second is decided only if the first holds
-both-decides-then : {A B : Type 0} {a b : Bool} → Decides A a → (A → Decides B b) → Decides (A × B) (both a b)
-both-decides-then {a = true} p q = let d = q (p .holds refl) in record {
+and-decides-then : {A B : Type 0} {a b : Bool} → Decides A a → (A → Decides B b) → Decides (A × B) (a && b)
+and-decides-then {a = true} p q = let d = q (p .holds refl) in record {
   holds = λ e. (p .holds refl, d .holds e);
   fails = λ e h. d .fails e (h .1);
 }
-both-decides-then {a = false} p q = record {
+and-decides-then {a = false} p q = record {
   holds = λ e. true-not-false e refl;
   fails = λ e h. p .fails refl (h .0);
 }
@@ -119,9 +117,9 @@ module _ {touch : ℕ → ℕ → Type 0} {touch? : ℕ → ℕ → Bool} {level
   unfolding peak?
   peak-decides p =
       decides-iff make parts
-      (both-decides-then (lt-decides 0 (level p))
+      (and-decides-then (lt-decides 0 (level p))
       (λ l. all-decides (λ b. implies-decides (flat-decides t p l b)
-      (λ w. both-decides (le-decides p b)
+      (λ w. and-decides (le-decides p b)
       (all-decides (λ c. implies-decides (t .decides b c) (λ s. le-decides (level c) (level p))) n))) n))
     where
       Parts : Type 0
@@ -146,7 +144,7 @@ module _ {touch : ℕ → ℕ → Type 0} {touch? : ℕ → ℕ → Bool} {level
   unfolding better?
   better-decides c x =
       decides-iff (λ s. split s above (λ h. before (h .0) (h .1))) cases
-      (either-decides (lt-decides (level x) (level c)) (both-decides (eq-decides (level c) (level x)) (lt-decides c x)))
+      (or-decides (lt-decides (level x) (level c)) (and-decides (eq-decides (level c) (level x)) (lt-decides c x)))
     where
       cases : Better level c x → (level x < level c) ⊎ ((level c ≡ level x) × (c < x))
       cases (above l) = inl l
@@ -156,14 +154,14 @@ module _ {touch : ℕ → ℕ → Type 0} {touch? : ℕ → ℕ → Bool} {level
       → Decides ((g : ℕ) × (g < n) × (Better level g x × Way touch (λ c. f ≤ level c) x g)) (joined? touch? level n x f)
   unfolding joined?
   joined-decides x f l =
-      any-decides (λ g. both-decides (better-decides g x)
+      any-decides (λ g. and-decides (better-decides g x)
       (way-decides (t .decides) (λ c. le-decides f (level c)) n (λ c h. land-below t c (omega arith)) x g)) n
 
   -- what `keyLevel` is the top of
   joint-decides : (x c : ℕ)
       → Decides ((0 < level c) × ((g : ℕ) × (g < n) × (Better level g x × Way touch (λ d. level c ≤ level d) x g)))
-      (both (ltb 0 (level c)) (joined? touch? level n x (level c)))
-  joint-decides x c = both-decides-then (lt-decides 0 (level c)) (joined-decides x (level c))
+      (ltb 0 (level c) && joined? touch? level n x (level c))
+  joint-decides x c = and-decides-then (lt-decides 0 (level c)) (joined-decides x (level c))
 
   keyLevel-best : (x : ℕ) → Best touch level (keyLevel touch? level n x) x
   unfolding keyLevel
@@ -178,7 +176,7 @@ module _ {touch : ℕ → ℕ → Type 0} {touch? : ℕ → ℕ → Bool} {level
         (c, land-below t c (let i : k < level c = way-end w in omega arith), (b, u)),
       ) in
       let i : level d ≤ k =
-      top-below n (λ c. both (ltb 0 (level c)) (joined? touch? level n x (level c))) level .upper d
+      top-below n (λ c. ltb 0 (level c) && joined? touch? level n x (level c)) level .upper d
       (land-below t d m) h in
       omega arith
 
@@ -188,7 +186,7 @@ module _ {touch : ℕ → ℕ → Type 0} {touch? : ℕ → ℕ → Bool} {level
   keyLevel-key x p l =
       let k = keyLevel touch? level n x in
       let (d, m, h, e) =
-      top-below n (λ c. both (ltb 0 (level c)) (joined? touch? level n x (level c))) level .attained l in
+      top-below n (λ c. ltb 0 (level c) && joined? touch? level n x (level c)) level .attained l in
       let (i, (g, j, (b, w))) = joint-decides x d .holds h in
       let v : Way touch (λ a. k ≤ level a) x g = way-mono (λ a q. omega arith) w in
       let below : k < level x =
@@ -235,7 +233,7 @@ module _ {touch : ℕ → ℕ → Type 0} {touch? : ℕ → ℕ → Bool} {level
       decides-iff
       (λ h. record { right = entryAt-right x (h .0); wanted = h .1 })
       (λ h. (h .right .peak, h .wanted))
-      (both-decides (peak-decides x) (wanted-decides T (level x) (entryAt touch? level n x .key)))
+      (and-decides (peak-decides x) (wanted-decides T (level x) (entryAt touch? level n x .key)))
 
   pub survey-list : (T : ℕ) → ListOf touch level T (survey touch? level n T)
   unfolding survey entryAt

@@ -4,29 +4,20 @@
 --     product-fits, -wide      a product of columns and rows stays in 64 bits
 -- Assumes nothing.
 use mathlib.Core.Path.{_≡_, sym, _∙_, ap₂}
-use mathlib.Core.Bool.{true, false}
+use mathlib.Core.Bool.{true, false, _||_}
 use Prim.Native.Nat.{ℕ, _+_, _*_, _≤_, _<_}
 use native.Mathlib.Nat.{mul-le-mul-right}
 use native.Mathlib.Omega.{arith}
 use lib.Dec.{eqb, ltb}
 use borrow.Author.Tests.{eq-eqb, ne-eqb, lt-ltb, le-ltb}
-use Rattle.relief.proofs.Deciding.{either}
 use Rattle.record.specs.declared.Refusal.the-variants.{Rows, Cells, Work, Ended, ColumnLength, GridFull, TakenCells}
+use Rattle.record.specs.Refusals.{badRows}
 use Rattle.run.specs.declared.Run.{Run}
 use Rattle.run.specs.declared.Started.the-variants as Started
 use Rattle.run.specs.declared.Checked.the-variants.{Good, Bad}
-use Rattle.run.specs.Running.{badRows, takenOf, startAnswer, columnCheck, endCheck}
+use Rattle.run.specs.Running.{takenOf, startAnswer, columnCheck, endCheck}
 
--- ---- rows
-
-pub rows-none : {rows : ℕ} → rows ≡ 0 → badRows rows ≡ true
-rows-none {rows} e = simp (eq-eqb rows 0 e)
-
-pub rows-many : {rows : ℕ} → (rows ≡ 0 → ⊥) → 1024 < rows → badRows rows ≡ true
-rows-many {rows} d l = simp (ne-eqb rows 0 d, lt-ltb 1024 rows l)
-
-pub rows-right : {rows : ℕ} → (rows ≡ 0 → ⊥) → rows ≤ 1024 → badRows rows ≡ false
-rows-right {rows} d l = simp (ne-eqb rows 0 d, le-ltb 1024 rows l)
+-- ---- Start
 
 pub start-bad : (rows T : ℕ) → badRows rows ≡ true → Started.Refused Rows ≡ startAnswer rows T
 unfolding startAnswer
@@ -53,13 +44,13 @@ product-wide {r} {k} {rows} {columns} ek er l m =
 
 -- ---- what both calls test: k columns of r rows, as the code has them
 
-exceeds-grid : (grid taken : ℕ) → grid < taken → either (ltb grid taken) (ltb 1048576 taken) ≡ true
+exceeds-grid : (grid taken : ℕ) → grid < taken → (ltb grid taken || ltb 1048576 taken) ≡ true
 exceeds-grid grid taken l = simp (lt-ltb grid taken l)
 
-exceeds-limit : (grid taken : ℕ) → taken ≤ grid → 1048576 < taken → either (ltb grid taken) (ltb 1048576 taken) ≡ true
+exceeds-limit : (grid taken : ℕ) → taken ≤ grid → 1048576 < taken → (ltb grid taken || ltb 1048576 taken) ≡ true
 exceeds-limit grid taken l m = simp (le-ltb grid taken l, lt-ltb 1048576 taken m)
 
-exceeds-none : (grid taken : ℕ) → taken ≤ grid → taken ≤ 1048576 → either (ltb grid taken) (ltb 1048576 taken) ≡ false
+exceeds-none : (grid taken : ℕ) → taken ≤ grid → taken ≤ 1048576 → (ltb grid taken || ltb 1048576 taken) ≡ false
 exceeds-none grid taken l m = simp (le-ltb grid taken l, le-ltb 1048576 taken m)
 
 module _ (run : Run) (offered grid work : ℕ) where
@@ -75,10 +66,10 @@ module _ (run : Run) (offered grid work : ℕ) where
     taken-is : k * r ≡ takenOf run
     taken-is = ap₂ (λ (x y : ℕ). x * y) ek er
 
-    taken-grid : grid < k * r → either (ltb grid (takenOf run)) (ltb 1048576 (takenOf run)) ≡ true
+    taken-grid : grid < k * r → (ltb grid (takenOf run) || ltb 1048576 (takenOf run)) ≡ true
     taken-grid l = exceeds-grid grid (takenOf run) (let e = taken-is in omega arith)
 
-    taken-limit : k * r ≤ grid → 1048576 < k * r → either (ltb grid (takenOf run)) (ltb 1048576 (takenOf run)) ≡ true
+    taken-limit : k * r ≤ grid → 1048576 < k * r → (ltb grid (takenOf run) || ltb 1048576 (takenOf run)) ≡ true
     taken-limit l m = exceeds-limit grid (takenOf run) (let e = taken-is in omega arith)
         (let e = taken-is in omega arith)
 
@@ -99,7 +90,7 @@ module _ (run : Run) (offered grid work : ℕ) where
     end-limit l m = simp (rows, taken-limit l m)
 
     module _ (lg : k * r ≤ grid) (ll : k * r ≤ 1048576) where
-      taken-none : either (ltb grid (takenOf run)) (ltb 1048576 (takenOf run)) ≡ false
+      taken-none : (ltb grid (takenOf run) || ltb 1048576 (takenOf run)) ≡ false
       taken-none = exceeds-none grid (takenOf run) (let e = taken-is in omega arith) (let e = taken-is in omega arith)
 
       pub column-ended : run .ended ≡ true → Bad Ended ≡ columnCheck run offered grid work

@@ -5,7 +5,7 @@
 --     column-refused, end-refused   the promise where a test failed
 -- Assumes nothing.
 use mathlib.Core.Path.{_≡_, refl, sym, _∙_, ap, ap₂, subst, subst₂, fun-ext}
-use mathlib.Core.Bool.{Bool, true, false, not}
+use mathlib.Core.Bool.{Bool, true, false, not, _||_}
 use mathlib.Core.List.{List, _++_, map}
 use Prim.Native.Nat.{ℕ, suc, _+_, _-_, _*_, _≤_, _<_}
 use native.Mathlib.Nat.{suc-mul}
@@ -15,17 +15,19 @@ use lib.Dec.{eqb, ltb}
 use lib.IntN.{ℤ}
 use lib.ListN.{length, take, getD, set, length-take}
 use lib.Seq.{paste, paste-suc, take-paste, take-length, take-take}
-use borrow.Author.Tests.{eqb-true, ltb-false, eqb-false, lt-ltb, le-ltb, not-false}
+use borrow.Author.Tests.{eqb-true, ltb-false, lt-ltb, le-ltb, not-false}
 use Rattle.relief.specs.Heights.{levels}
 use Rattle.relief.specs.Runs.{Stage, Batch, Rest, Closing, Remaining}
 use Rattle.relief.specs.Plane.{Plane, stageOf}
-use Rattle.relief.proofs.Deciding.{split, le-or-lt, either, true-not-false}
+use Rattle.relief.proofs.Deciding.{split, le-or-lt, or-false}
 use Rattle.relief.proofs.Batching.{surveyBatch, surveyRest, survey-batch, survey-rest}
 use Rattle.relief.proofs.Plane.{plane?}
 use Rattle.relief.proofs.PlaneRun.{levels-end, levels-take, plane-staged}
 use Rattle.record.specs.declared.Refusal.{Refusal}
 use Rattle.record.specs.declared.Refusal.the-variants.{Table}
 use Rattle.record.specs.Records.{recordOf}
+use Rattle.record.specs.Refusals.{badRows}
+use Rattle.record.proofs.Refusals.{rows-known}
 use Rattle.words.specs.Area.{levelIn}
 use Rattle.sweep.specs.Taking.{cut}
 use Rattle.sweep.proofs.Work.{cut-below, cut-behind}
@@ -37,7 +39,6 @@ use Rattle.run.specs.declared.Handed.the-variants.{Count, Refused}
 use Rattle.run.specs.declared.Checked.{Checked}
 use Rattle.run.specs.declared.Checked.the-variants.{Good, Bad}
 use Rattle.run.specs.Running.{
-  badRows,
   handedAnswer,
   takenOf,
   heightsWith,
@@ -60,23 +61,12 @@ pass : (b : Bool) {r : Refusal} → (b ≡ true → Bad r ≡ Good) → b ≡ fa
 pass true f = absurd (bad-good (f refl))
 pass false f = refl
 
-either-false : (a b : Bool) → either a b ≡ false → (a ≡ false) × (b ≡ false)
-either-false true b e = true-not-false refl e
-either-false false b e = (refl, e)
-
-rows-known : (rows : ℕ) → badRows rows ≡ false → (0 < rows) × (rows ≤ 1024)
-rows-known rows e =
-    let (a, b) = either-false (eqb rows 0) (ltb 1024 rows) e in
-    let d = eqb-false rows 0 a in
-    let l = ltb-false 1024 rows b in
-    (omega arith, l)
-
 module _ (run : Run) (offered grid work : ℕ) where
   pub column-passed : Good ≡ columnCheck run offered grid work → GoodColumn run offered grid work
   unfolding columnCheck
   column-passed e =
       let a = pass (badRows (run .rows)) (λ z. simp z at (sym e)) in
-      let b = pass (either (ltb grid (takenOf run)) (ltb 1048576 (takenOf run))) (λ z. simp (a, z) at (sym e)) in
+      let b = pass (ltb grid (takenOf run) || ltb 1048576 (takenOf run)) (λ z. simp (a, z) at (sym e)) in
       let c = pass (run .ended) (λ z. simp (a, b, z) at (sym e)) in
       let d = pass (not (eqb offered (run .rows))) (λ z. simp (a, b, c, z) at (sym e)) in
       let f = pass (ltb 1048576 (takenOf run + run .rows)) (λ z. simp (a, b, c, d, z) at (sym e)) in
@@ -85,7 +75,7 @@ module _ (run : Run) (offered grid work : ℕ) where
       let (i, j) = rows-known (run .rows) a in
       record {
         good = sym e;
-        some = i;
+        some = omega arith;
         few = j;
         whole = eqb-true offered (run .rows) (not-false (eqb offered (run .rows)) d);
         cells = ltb-false 1048576 (takenOf run + run .rows) f;
@@ -97,14 +87,14 @@ module _ (run : Run) (offered grid work : ℕ) where
   unfolding endCheck
   end-passed e =
       let a = pass (badRows (run .rows)) (λ z. simp z at (sym e)) in
-      let b = pass (either (ltb grid (takenOf run)) (ltb 1048576 (takenOf run))) (λ z. simp (a, z) at (sym e)) in
+      let b = pass (ltb grid (takenOf run) || ltb 1048576 (takenOf run)) (λ z. simp (a, z) at (sym e)) in
       let c = pass (run .ended) (λ z. simp (a, b, z) at (sym e)) in
       let h = pass (ltb work (16 * takenOf run)) (λ z. simp (a, b, c, z) at (sym e)) in
       let (i, j) = rows-known (run .rows) a in
-      let (x, y) = either-false (ltb grid (takenOf run)) (ltb 1048576 (takenOf run)) b in
+      let (x, y) = or-false (ltb grid (takenOf run)) (ltb 1048576 (takenOf run)) b in
       record {
         good = sym e;
-        some = i;
+        some = omega arith;
         few = j;
         cells = ltb-false 1048576 (takenOf run) y;
         fits = ltb-false grid (takenOf run) x;

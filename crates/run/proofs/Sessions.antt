@@ -24,6 +24,7 @@ use Rattle.relief.proofs.Listing.{order-unique}
 use Rattle.theorems.proofs.Claims.{claims}
 use Rattle.record.specs.declared.Refusal.{Refusal}
 use Rattle.record.specs.Records.{recordOf}
+use Rattle.record.specs.Refusals.{badRows}
 use Rattle.run.specs.declared.Run.{Run}
 use Rattle.run.specs.declared.Handed.{Handed}
 use Rattle.run.specs.declared.Handed.the-variants.{Count, Refused}
@@ -32,7 +33,6 @@ use Rattle.run.specs.declared.Checked.the-variants.{Good, Bad}
 use Rattle.run.specs.declared.Started.{Started}
 use Rattle.run.specs.declared.Started.the-variants as Start
 use Rattle.run.specs.Running.{
-  badRows,
   takenOf,
   startAnswer,
   handedAnswer,

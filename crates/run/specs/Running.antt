@@ -6,7 +6,7 @@
 --     FlatColumn, FlatEnd   the same without the row: what is left in the work area
 -- Assumes nothing.
 use mathlib.Core.Path.{_≡_}
-use mathlib.Core.Bool.{Bool, true, false, not}
+use mathlib.Core.Bool.{true, false, not, cond, _||_}
 use mathlib.Core.List.{List, _++_, map}
 use Prim.Native.Nat.{ℕ, suc, _+_, _*_, _≤_, _<_}
 use lib.Dec.{eqb, ltb}
@@ -16,7 +16,6 @@ use lib.Seq.{paste}
 use Rattle.relief.specs.Peaks.{Entry}
 use Rattle.relief.specs.Runs.{Batch, Rest}
 use Rattle.relief.specs.Plane.{Plane, stageOf}
-use Rattle.relief.proofs.Deciding.{either}
 use Rattle.record.specs.declared.Peak.{Peak}
 use Rattle.record.specs.declared.Refusal.the-variants.{
   Rows,
@@ -29,6 +28,7 @@ use Rattle.record.specs.declared.Refusal.the-variants.{
   TakenCells,
 }
 use Rattle.record.specs.Records.{recordOf}
+use Rattle.record.specs.Refusals.{badRows}
 use Rattle.table.specs.Table.{Counted, recordsIn}
 use Rattle.run.specs.declared.Run.{Run}
 use Rattle.run.specs.declared.Started.{Started}
@@ -38,23 +38,11 @@ use Rattle.run.specs.declared.Handed.the-variants.{Count, Refused}
 use Rattle.run.specs.declared.Checked.{Checked}
 use Rattle.run.specs.declared.Checked.the-variants.{Good, Bad}
 
--- refusal 1: "rows are 0 or above 1,024"
-abbrev pub badRows : ℕ → Bool
-badRows rows = either (eqb rows 0) (ltb 1024 rows)
-
-abbrev pub pickStarted : Bool → Started → Started → Started
-pickStarted true a b = a
-pickStarted false a b = b
-
 -- "Start takes rows and threshold and gives a record of zero columns."
 unfoldable pub startAnswer : ℕ → ℕ → Started
 startAnswer rows T =
-    pickStarted (badRows rows) (Started.Refused Rows)
+    cond (badRows rows) (Started.Refused Rows)
     (Started.Begun (record { rows = rows; columns = 0; threshold = T; ended = false }))
-
-abbrev pub pickChecked : Bool → Checked → Checked → Checked
-pickChecked true a b = a
-pickChecked false a b = b
 
 -- the cells that a run record says are taken
 abbrev pub takenOf : Run → ℕ
@@ -63,36 +51,33 @@ takenOf run = run .columns * run .rows
 -- "Column: 1, 9, 6, 7, 3, 8, 4, 5"; `offered`, `grid` and `work` are lengths, `work` in bytes.
 unfoldable pub columnCheck : Run → ℕ → ℕ → ℕ → Checked
 columnCheck run offered grid work =
-    pickChecked (badRows (run .rows)) (Bad Rows)
+    -- 1: "rows are 0 or above 1,024"
+    cond (badRows (run .rows)) (Bad Rows)
     -- 9: "the record's cells exceed the lent grid or 1,048,576"
-    (pickChecked (either (ltb grid (takenOf run)) (ltb 1048576 (takenOf run))) (Bad TakenCells)
+    (cond (ltb grid (takenOf run) || ltb 1048576 (takenOf run)) (Bad TakenCells)
     -- 6: "the run has ended"
-    (pickChecked (run .ended) (Bad Ended)
+    (cond (run .ended) (Bad Ended)
     -- 7: "offered column's length is not rows"
-    (pickChecked (not (eqb offered (run .rows))) (Bad ColumnLength)
+    (cond (not (eqb offered (run .rows))) (Bad ColumnLength)
     -- 3: "more than 1,048,576 cells, or would be with this column"
-    (pickChecked (ltb 1048576 (takenOf run + run .rows)) (Bad Cells)
+    (cond (ltb 1048576 (takenOf run + run .rows)) (Bad Cells)
     -- 8: "the lent grid can't take one more column"
-    (pickChecked (ltb grid (takenOf run + run .rows)) (Bad GridFull)
+    (cond (ltb grid (takenOf run + run .rows)) (Bad GridFull)
     -- 4: "work area below 4 numbers of 32 bits per cell, new column counted"
-    (pickChecked (ltb work (16 * (takenOf run + run .rows))) (Bad Work) Good))))))
+    (cond (ltb work (16 * (takenOf run + run .rows))) (Bad Work) Good))))))
 
 -- "End: 1, 9, 6, 4, 5"
 unfoldable pub endCheck : Run → ℕ → ℕ → Checked
 endCheck run grid work =
-    pickChecked (badRows (run .rows)) (Bad Rows)
-    (pickChecked (either (ltb grid (takenOf run)) (ltb 1048576 (takenOf run))) (Bad TakenCells)
-    (pickChecked (run .ended) (Bad Ended)
-    (pickChecked (ltb work (16 * takenOf run)) (Bad Work) Good)))
-
-abbrev pub pickHanded : Bool → Handed → Handed → Handed
-pickHanded true a b = a
-pickHanded false a b = b
+    cond (badRows (run .rows)) (Bad Rows)
+    (cond (ltb grid (takenOf run) || ltb 1048576 (takenOf run)) (Bad TakenCells)
+    (cond (run .ended) (Bad Ended)
+    (cond (ltb work (16 * takenOf run)) (Bad Work) Good)))
 
 -- 5: "peak table too short", which also returns "the number of records needed"
 abbrev pub handedAnswer : Checked → ℕ → ℕ → Handed
 handedAnswer (Bad r) room needed = Refused r
-handedAnswer Good room needed = pickHanded (ltb room needed) (Refused (Table needed)) (Count needed)
+handedAnswer Good room needed = cond (ltb room needed) (Refused (Table needed)) (Count needed)
 
 -- "when accepted it is copied behind the taken cells"; "At 5 from the column call, the cells just behind the taken ones
 -- hold the offered column."

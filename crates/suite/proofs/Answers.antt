@@ -4,6 +4,7 @@
 --     suite-short, suite-count                                                  what is answered once it is made
 -- Each return adds the outcome of one test, so that the answer's tests compute. The list is there whatever is refused.
 -- Assumes nothing.
+use mathlib.Core.Bool.{cond}
 use mathlib.Core.Path.{_≡_, refl, sym, _∙_, ap}
 use mathlib.Core.List.{List, _++_}
 use Prim.Native.Nat.{ℕ, _*_, _/_, _%_, _≤_, _<_}
@@ -18,12 +19,13 @@ use Rattle.relief.proofs.Surveying.{survey, survey-list}
 use Rattle.relief.proofs.Plane.{plane?}
 use Rattle.relief.proofs.PlaneRun.{plane-terrain}
 use Rattle.record.specs.declared.Peak.{Peak}
+use Rattle.record.proofs.Refusals.{rows-none, rows-many, rows-right}
 use Rattle.words.specs.Area.{levelIn}
 use Rattle.sweep.specs.Taking.{cut}
 use Rattle.layout.specs.Layout.{bytesOf, recordsOf}
 use Rattle.survey.specs.Answers.{entriesIn, Loaded, Answered}
 use Rattle.survey.proofs.Recording.{places-record, places-length}
-use Rattle.suite.specs.Entry.{heightsOf, pickNumber, suiteAnswer, suiteTable, SuiteLists}
+use Rattle.suite.specs.Entry.{heightsOf, suiteAnswer, suiteTable, SuiteLists}
 use Rattle.survey.proofs.Marking.{loaded-levels}
 use Rattle.suite.proofs.Heights.{heights-length}
 use Rattle.layout.proofs.Putting.{recordBytes}
@@ -41,19 +43,18 @@ module _ (rows : ℕ) (heights : List ℕ) (T work : ℕ) (table : List ℕ) whe
 
   pub suite-no-rows : rows ≡ 0 → SuiteLists rows heights T work table table (negsuc 0)
   unfolding suiteAnswer
-  suite-no-rows e = refused-early (λ k. simp (eq-eqb rows 0 e))
+  suite-no-rows e = refused-early (λ k. simp (rows-none e))
 
   module _ (some : rows ≡ 0 → ⊥) where
     pub suite-many-rows : 1024 < rows → SuiteLists rows heights T work table table (negsuc 0)
     unfolding suiteAnswer
-    suite-many-rows l = refused-early (λ k. simp (ne-eqb rows 0 some, lt-ltb 1024 rows l))
+    suite-many-rows l = refused-early (λ k. simp (rows-many l))
 
     module _ (few : rows ≤ 1024) where
       pub suite-length : (length heights % (4 * rows) ≡ 0 → ⊥) → SuiteLists rows heights T work table table (negsuc 1)
       unfolding suiteAnswer
       suite-length d = refused-early (λ k. simp (
-        ne-eqb rows 0 some,
-        le-ltb 1024 rows few,
+        rows-right some few,
         ne-eqb (length heights % (4 * rows)) 0 d,
       ))
 
@@ -61,8 +62,7 @@ module _ (rows : ℕ) (heights : List ℕ) (T work : ℕ) (table : List ℕ) whe
         pub suite-cells : 1048576 < length heights / 4 → SuiteLists rows heights T work table table (negsuc 2)
         unfolding suiteAnswer
         suite-cells l = refused-early (λ k. simp (
-          ne-eqb rows 0 some,
-          le-ltb 1024 rows few,
+          rows-right some few,
           eq-eqb (length heights % (4 * rows)) 0 whole,
           lt-ltb 1048576 (length heights / 4) l,
         ))
@@ -71,8 +71,7 @@ module _ (rows : ℕ) (heights : List ℕ) (T work : ℕ) (table : List ℕ) whe
           pub suite-work : work < 16 * (length heights / 4) → SuiteLists rows heights T work table table (negsuc 3)
           unfolding suiteAnswer
           suite-work l = refused-early (λ k. simp (
-            ne-eqb rows 0 some,
-            le-ltb 1024 rows few,
+            rows-right some few,
             eq-eqb (length heights % (4 * rows)) 0 whole,
             le-ltb 1048576 (length heights / 4) fits,
             lt-ltb work (16 * (length heights / 4)) l,
@@ -89,11 +88,10 @@ pub record Accepted (rows : ℕ) (heights : List ℕ) (work : ℕ) : Type 0 wher
   pub space : 16 * (length heights / 4) ≤ work
 
 module _ {rows : ℕ} {heights : List ℕ} {work : ℕ} (h : Accepted rows heights work) (table k : ℕ) where
-  accepted-answer : suiteAnswer rows (length heights) work table k ≡ pickNumber (ltb (table / 16) k) (negsuc 4) (pos k)
+  accepted-answer : suiteAnswer rows (length heights) work table k ≡ cond (ltb (table / 16) k) (negsuc 4) (pos k)
   unfolding suiteAnswer
   accepted-answer = simp (
-    ne-eqb rows 0 (h .some),
-    le-ltb 1024 rows (h .few),
+    rows-right (h .some) (h .few),
     eq-eqb (length heights % (4 * rows)) 0 (h .whole),
     le-ltb 1048576 (length heights / 4) (h .fits),
     le-ltb work (16 * (length heights / 4)) (h .space),

@@ -1,12 +1,12 @@
 -- The C entry: the last paragraph of section "What comes back" of document 01, over the layouts of "Run file".
 --     heightsOf f n        the first n heights of the bytes f
---     pickNumber b u v     u where the test passes, else v
+--     cond b u v     u where the test passes, else v
 --     suiteAnswer          the answer, by the tests in the paper's order
 --     suiteTable           the bytes of the table after the call
 --     SuiteLists           the promise of the call: it determines the answer and the table on all inputs
 -- A height has 4 bytes, a record 16. Assumes nothing.
 use mathlib.Core.Path.{_≡_}
-use mathlib.Core.Bool.{Bool, true, false, not}
+use mathlib.Core.Bool.{not, cond}
 use mathlib.Core.List.{List, [], _∷_, _++_, map}
 use Prim.Native.Nat.{ℕ, zero, suc, _*_, _/_, _%_}
 use lib.Dec.{eqb, ltb}
@@ -15,8 +15,8 @@ use lib.ListN.{length, drop}
 use Rattle.relief.specs.Heights.{levels}
 use Rattle.relief.specs.Peaks.{Entry, ListOf}
 use Rattle.relief.specs.Plane.{Plane}
-use Rattle.relief.proofs.Deciding.{either}
 use Rattle.record.specs.Records.{recordOf}
+use Rattle.record.specs.Refusals.{badRows}
 use Rattle.words.specs.Words.{wordAt}
 use Rattle.layout.specs.Layout.{signedOf, bytesOf, recordsOf}
 
@@ -26,25 +26,20 @@ unfoldable pub heightsOf : List ℕ → ℕ → List ℤ
 heightsOf f zero = []
 heightsOf f (suc i) = heightsOf f i ++ (signedOf (wordAt f i) ∷ [])
 
--- the first number where the test passes, else the second
-abbrev pub pickNumber : Bool → ℤ → ℤ → ℤ
-pickNumber true a b = a
-pickNumber false a b = b
-
 -- "answers one signed number, the record count or minus the refusal number" (`negsuc n` is -(n + 1)). "List: 1, 2, 3,
 -- 4, 5." `needed` is in records, the lengths are in bytes.
 unfoldable pub suiteAnswer : ℕ → ℕ → ℕ → ℕ → ℕ → ℤ
 suiteAnswer rows bytes work table needed =
     -- "rows are 0 or above 1,024"
-    pickNumber (either (eqb rows 0) (ltb 1024 rows)) (negsuc 0)
+    cond (badRows rows) (negsuc 0)
     -- "length of heights is no multiple of [..] 4 x rows bytes"
-    (pickNumber (not (eqb (bytes % (4 * rows)) 0)) (negsuc 1)
+    (cond (not (eqb (bytes % (4 * rows)) 0)) (negsuc 1)
     -- "more than 1,048,576 cells"
-    (pickNumber (ltb 1048576 (bytes / 4)) (negsuc 2)
+    (cond (ltb 1048576 (bytes / 4)) (negsuc 2)
     -- "work area below 4 numbers of 32 bits per cell": "Its work area is bytes, 16 per cell"
-    (pickNumber (ltb work (16 * (bytes / 4))) (negsuc 3)
+    (cond (ltb work (16 * (bytes / 4))) (negsuc 3)
     -- "peak table too short": "its table counts as many records as fit whole"
-    (pickNumber (ltb (table / 16) needed) (negsuc 4) (pos needed)))))
+    (cond (ltb (table / 16) needed) (negsuc 4) (pos needed)))))
 
 -- "A refusal [..] writes nothing"; "On success [..] bytes [..] beyond those counted stay as they were."
 abbrev pub suiteTable : ℤ → List Entry → List ℕ → List ℕ

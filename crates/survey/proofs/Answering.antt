@@ -4,7 +4,7 @@
 --     answer-order       so the cells collected are just the entries that are handed out, in reading order
 -- Assumes nothing.
 use mathlib.Core.Path.{_≡_, refl, sym, _∙_, ap, subst}
-use mathlib.Core.Bool.{Bool, true, false, not}
+use mathlib.Core.Bool.{Bool, true, false, not, _&&_}
 use mathlib.Core.List.{List}
 use Prim.Native.Nat.{ℕ, _+_, _-_, _*_, _≤_, _<_, zero-le}
 use native.Mathlib.Omega.{arith}
@@ -19,11 +19,10 @@ use Rattle.relief.proofs.Deciding.{
   test,
   Decides,
   true-not-false,
-  both,
   le-or-lt,
   eq-decides,
   le-decides,
-  both-decides,
+  and-decides,
   not-decides,
   decides-iff,
   passes,
@@ -188,27 +187,27 @@ module _ {touch : ℕ → ℕ → Type 0} {touch? : ℕ → ℕ → Bool} {L : �
         (λ k (x, w, l). k .away x w l)
         (not-decides d)
 
-    pub closed-decides : Decides (Closed touch stage (entryIn t n c)) (both (listedIn t n 0 c) (not (openIn t n c)))
+    pub closed-decides : Decides (Closed touch stage (entryIn t n c)) (listedIn t n 0 c && not (openIn t n c))
     closed-decides = go (kind t n c)
       where
-        go : Kind t n c → Decides (Closed touch stage (entryIn t n c)) (both (listedIn t n 0 c) (not (openIn t n c)))
+        go : Kind t n c → Decides (Closed touch stage (entryIn t n c)) (listedIn t n 0 c && not (openIn t n c))
         go (blank e) =
-            decides-as (ap (λ (b : Bool). both b (not (openIn t n c))) (test-blank t n 0 c e))
+            decides-as (ap (λ (b : Bool). b && not (openIn t n c)) (test-blank t n 0 c e))
             (never (λ h. no-blank e (peak-of (entry-cell t n c) (h .right))) refl)
         go (root l e) =
             let (p, k, o) = r .surveyed .top c below (land-L l) e in
             decides-as
-            (ap (λ (b : Bool). both b (not (openIn t n c))) (test-root t n 0 c l e) ∙ ap not (open-root t n c e))
+            (ap (λ (b : Bool). b && not (openIn t n c)) (test-root t n 0 c l e) ∙ ap not (open-root t n c e))
             (rw (entry-root t n c e) (shores-closed (rw (entry-root t n c e) at (right-root l e)) o))
         go (slope l d m) =
-            decides-as (ap (λ (b : Bool). both b (not (openIn t n c))) (test-slope t n 0 c d m l))
+            decides-as (ap (λ (b : Bool). b && not (openIn t n c)) (test-slope t n 0 c d m l))
             (never (λ h. no-slope l d m (peak-of (entry-cell t n c) (h .right))) refl)
         go (hung l d m) =
             let e = r .same c below in
             let f = pass-same l in
             let (p, k, q, o) = r .surveyed .keyed c below (land-L l) d (omega arith) in
             decides-as
-            (ap (λ (b : Bool). both b (not (openIn t n c)))
+            (ap (λ (b : Bool). b && not (openIn t n c))
             (test-hung t n 0 c d m l ∙ le-leb 0 (levelIn t c - levelIn t (passOf t n c)) zero-le)
             ∙ ap not (open-hung t n c d))
             (rw (entry-hung t n c d)
@@ -246,19 +245,19 @@ module _ {touch : ℕ → ℕ → Type 0} {touch? : ℕ → ℕ → Bool} {L : �
   open-told : (T c : ℕ) (l : c < limit) → listedIn t n T c ≡ true
       → Decides (Closed touch stage (entryIn t n c)) (not (openIn t n c))
   open-told T c l e =
-      subst (λ (b : Bool). Decides (Closed touch stage (entryIn t n c)) (both b (not (openIn t n c))))
+      subst (λ (b : Bool). Decides (Closed touch stage (entryIn t n c)) (b && not (openIn t n c)))
       (listed-zero T c l e) (closed-decides c l)
 
   pub whole-told : (T c : ℕ) → c < limit → Decides (Listed touch L T (entryIn t n c)) (chosenIn t n T Whole c)
   unfolding chosenIn
   whole-told T c l =
-      decides-iff (λ h. h .0) (λ h. (h, tt)) (both-decides (listed-decides c l T) (always {A = Unit {0}} tt refl))
+      decides-iff (λ h. h .0) (λ h. (h, tt)) (and-decides (listed-decides c l T) (always {A = Unit {0}} tt refl))
 
   pub open-part-told : (T c : ℕ) → c < limit → Decides (Remaining touch stage T (entryIn t n c)) (chosenIn t n T Open c)
   unfolding chosenIn
   open-part-told T c l = go (listedIn t n T c) refl
     where
-      go : (b : Bool) → listedIn t n T c ≡ b → Decides (Remaining touch stage T (entryIn t n c)) (both b (openIn t n c))
+      go : (b : Bool) → listedIn t n T c ≡ b → Decides (Remaining touch stage T (entryIn t n c)) (b && openIn t n c)
       go true e =
           let h = listed-decides c l T .holds e in
           let d = open-told T c l e in
@@ -281,7 +280,7 @@ module _ {touch : ℕ → ℕ → Type 0} {touch? : ℕ → ℕ → Bool} {L : �
       where
         go : (b : Bool) → listedIn t n T c ≡ b
             → Decides (Runs.Closing touch s₀ stage T (entryIn t n c))
-            (both b (both (not (openIn t n c)) (not (markIn (orderIn t n c)))))
+            (b && (not (openIn t n c) && not (markIn (orderIn t n c))))
         go true e =
             let h = listed-decides c l T .holds e in
             decides-iff
@@ -291,7 +290,7 @@ module _ {touch : ℕ → ℕ → Type 0} {touch? : ℕ → ℕ → Bool} {L : �
               unclosed = λ d q x. none (d, q ∙ entry-cell t n c, x);
             })
             (λ k. (k .closed, λ (d, q, x). k .unclosed d (q ∙ sym (entry-cell t n c)) x))
-            (both-decides (open-told T c l e) (not-decides (marks c l)))
+            (and-decides (open-told T c l e) (not-decides (marks c l)))
         go false e = never (λ h. listed-decides c l T .fails e (h .listed)) refl
 
   -- ---- all cells
@@ -300,7 +299,7 @@ module _ {touch : ℕ → ℕ → Type 0} {touch? : ℕ → ℕ → Bool} {L : �
   unfolding chosenIn
   chosen-land T part c e =
       split (le-or-lt (levelIn t c) 0)
-      (λ l. true-not-false e (ap (λ (b : Bool). both b (wantsPart part (openIn t n c) (markIn (orderIn t n c))))
+      (λ l. true-not-false e (ap (λ (b : Bool). b && wantsPart part (openIn t n c) (markIn (orderIn t n c)))
       (test-blank t n T c (omega arith))))
       (λ l. l)
 

@@ -4,7 +4,7 @@
 --     marked-follow      the whole table, by one computation
 -- Assumes nothing.
 use mathlib.Core.Path.{_≡_, refl, subst}
-use mathlib.Core.Bool.{Bool, true, false}
+use mathlib.Core.Bool.{Bool, true, false, _&&_}
 use mathlib.Core.List.{List, [], _∷_}
 use Prim.Native.Nat.{ℕ, suc, _*_}
 use lib.Dec.{eqb}
@@ -16,7 +16,7 @@ use Rattle.relief.specs.Peaks.{Key, missing, key, Entry, ListOf}
 use Rattle.relief.specs.Runs.{Batch, Rest}
 use Rattle.relief.specs.Plane.{Plane, stageOf}
 use Rattle.theorems.specs.Grids.{Example, grid, run, HandedOut, Follow, marked}
-use Rattle.relief.proofs.Deciding.{true-not-false, both}
+use Rattle.relief.proofs.Deciding.{true-not-false, and-true}
 use Rattle.relief.proofs.Surveying.{peak?, better?, joined?, keyLevel, entryAt, listed?, survey, survey-list}
 use Rattle.relief.proofs.Batching.{closed?, surveyRest, surveyBatch, survey-rest, survey-batch}
 use Rattle.relief.proofs.Plane.{plane?}
@@ -28,25 +28,21 @@ abbrev sameKey : Key → Key → Bool
 sameKey missing missing = true
 sameKey missing (key k c) = false
 sameKey (key k c) missing = false
-sameKey (key k c) (key k′ c′) = both (eqb k k′) (eqb c c′)
+sameKey (key k c) (key k′ c′) = eqb k k′ && eqb c c′
 
 abbrev same : List Entry → List Entry → Bool
 same [] [] = true
 same [] (y ∷ m) = false
 same (x ∷ l) [] = false
 same (x ∷ l) (y ∷ m) =
-    both (both (eqb (x .cell) (y .cell)) (both (eqb (x .level) (y .level)) (sameKey (x .key) (y .key)))) (same l m)
-
-both-holds : (a b : Bool) → both a b ≡ true → (a ≡ true) × (b ≡ true)
-both-holds true b e = (refl, e)
-both-holds false b e = true-not-false e refl
+    (eqb (x .cell) (y .cell) && (eqb (x .level) (y .level) && sameKey (x .key) (y .key))) && same l m
 
 sameKey-equal : (k k′ : Key) → sameKey k k′ ≡ true → k ≡ k′
 sameKey-equal missing missing e = refl
 sameKey-equal missing (key k c) e = true-not-false e refl
 sameKey-equal (key k c) missing e = true-not-false e refl
 sameKey-equal (key k c) (key k′ c′) e =
-    let (h, i) = both-holds (eqb k k′) (eqb c c′) e in
+    let (h, i) = and-true (eqb k k′) (eqb c c′) e in
     let p = eqb-true k k′ h in
     let q = eqb-true c c′ i in
     cc
@@ -56,9 +52,9 @@ same-equal [] [] e = refl
 same-equal [] (y ∷ m) e = true-not-false e refl
 same-equal (x ∷ l) [] e = true-not-false e refl
 same-equal (x ∷ l) (y ∷ m) e =
-    let (h, i) = both-holds _ (same l m) e in
-    let (a, b) = both-holds (eqb (x .cell) (y .cell)) _ h in
-    let (c, d) = both-holds (eqb (x .level) (y .level)) (sameKey (x .key) (y .key)) b in
+    let (h, i) = and-true _ (same l m) e in
+    let (a, b) = and-true (eqb (x .cell) (y .cell)) _ h in
+    let (c, d) = and-true (eqb (x .level) (y .level)) (sameKey (x .key) (y .key)) b in
     let p = eqb-true (x .cell) (y .cell) a in
     let q = eqb-true (x .level) (y .level) c in
     let r = sameKey-equal (x .key) (y .key) d in
@@ -70,10 +66,10 @@ same-equal (x ∷ l) (y ∷ m) e =
 
 abbrev agreesFrom : ℕ → ℕ → List ℤ → ℕ → List (List Entry) → List Entry → Bool
 agreesFrom rows T heights j [] rest =
-    both (eqb (j * rows) (length heights)) (same (surveyRest (plane? rows) (stageOf rows j heights) T) rest)
+    eqb (j * rows) (length heights) && same (surveyRest (plane? rows) (stageOf rows j heights) T) rest
 agreesFrom rows T heights j (batch ∷ batches) rest =
-    both (same (surveyBatch (plane? rows) (stageOf rows j heights) (stageOf rows (suc j) heights) T) batch)
-    (agreesFrom rows T heights (suc j) batches rest)
+    same (surveyBatch (plane? rows) (stageOf rows j heights) (stageOf rows (suc j) heights) T) batch
+    && agreesFrom rows T heights (suc j) batches rest
 
 abbrev agrees : Example → Bool
 agrees (grid rows T heights list) = same (survey (plane? rows) (levels heights) (length heights) T) list
@@ -81,18 +77,18 @@ agrees (run rows T heights batches rest) = agreesFrom rows T heights 0 batches r
 
 abbrev all : List Example → Bool
 all [] = true
-all (x ∷ xs) = both (agrees x) (all xs)
+all (x ∷ xs) = agrees x && all xs
 
 follows-from : (rows T : ℕ) (heights : List ℤ) (j : ℕ) (batches : List (List Entry)) (rest : List Entry)
     → agreesFrom rows T heights j batches rest ≡ true → HandedOut rows T heights j batches rest
 follows-from rows T heights j [] rest e =
-    let (h, i) = both-holds (eqb (j * rows) (length heights)) _ e in (
+    let (h, i) = and-true (eqb (j * rows) (length heights)) _ e in (
       eqb-true (j * rows) (length heights) h,
       subst (Rest (Plane rows) (stageOf rows j heights) T) (same-equal _ rest i)
           (survey-rest (plane-staged rows j heights) T),
     )
 follows-from rows T heights j (batch ∷ batches) rest e =
-    let (h, i) = both-holds _ (agreesFrom rows T heights (suc j) batches rest) e in (
+    let (h, i) = and-true _ (agreesFrom rows T heights (suc j) batches rest) e in (
       subst (Batch (Plane rows) (stageOf rows j heights) (stageOf rows (suc j) heights) T) (same-equal _ batch h)
           (survey-batch (plane-staged rows j heights) (plane-staged rows (suc j) heights) T),
       follows-from rows T heights (suc j) batches rest i,
@@ -101,13 +97,13 @@ follows-from rows T heights j (batch ∷ batches) rest e =
 follow : (xs : List Example) → all xs ≡ true → Follow xs
 follow [] e = tt
 follow (grid rows T heights list ∷ xs) e =
-    let (h, i) = both-holds (agrees (grid rows T heights list)) (all xs) e in (
+    let (h, i) = and-true (agrees (grid rows T heights list)) (all xs) e in (
       subst (ListOf (Plane rows) (levels heights) T) (same-equal _ list h)
           (survey-list (plane-terrain rows heights) T),
       follow xs i,
     )
 follow (run rows T heights batches rest ∷ xs) e =
-    let (h, i) = both-holds (agreesFrom rows T heights 0 batches rest) (all xs) e in
+    let (h, i) = and-true (agreesFrom rows T heights 0 batches rest) (all xs) e in
     (follows-from rows T heights 0 batches rest h, follow xs i)
 
 pub marked-follow : Follow marked

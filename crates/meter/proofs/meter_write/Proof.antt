@@ -1,7 +1,7 @@
 -- `meter::meter_write` meets its contract. Where the answer is a number of bytes, header, heights and records are laid
 -- one behind the other (`row-written`); at a refusal nothing is laid. Assumes nothing.
 use mathlib.Core.Path.{_∙_, ap}
-use Prim.Native.Nat.{ℕ, _/_}
+use Prim.Native.Nat.{_/_}
 use denote.Ref.{now}
 use lib.ListN.{length}
 use mir.Syntax.{w64}

@@ -1,6 +1,6 @@
 -- `meter::take_records` meets its contract. The invariant: the table is the bytes of the records put so far, and then
 -- what it was behind them (`Puts` of `layout`). What is left of the count falls. Assumes nothing.
-use mathlib.Core.List.{List, _∷_}
+use mathlib.Core.List.{List}
 use mathlib.Core.Path.{refl}
 use Prim.Native.Nat.{ℕ, _-_}
 use native.Mathlib.Omega.{arith}

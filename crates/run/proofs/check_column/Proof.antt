@@ -1,5 +1,6 @@
 -- `check_column`: the answer at each return, by the tests so far (`Checks`). Rows are at most 1,024 where they are
 -- multiplied with columns, so the product fits. Assumes nothing.
+use Rattle.record.proofs.Refusals.{rows-none, rows-many, rows-right}
 use Rattle.run.proofs.Checks as Checks
 use borrow.Author.Needs.{needs}
 use Rattle.run.proofs.check_column.Statement.{statement}
@@ -8,13 +9,13 @@ use Rattle.run.proofs.check_column.Tie as tie
 returns : tie.Need-returns
 returns c =
     Checks.column-rows (c .before .args .run) (c .before .args .offered) (c .before .args .grid)
-    (c .before .args .work) (Checks.rows-none (c .if1 .taken))
+    (c .before .args .work) (rows-none (c .if1 .taken))
 
 returns-2 : tie.Need-returns-2
 returns-2 c =
     Checks.column-rows (c .before .before .args .run) (c .before .before .args .offered)
     (c .before .before .args .grid) (c .before .before .args .work)
-    (Checks.rows-many (c .before .if1 .left) (c .if2 .taken))
+    (rows-many (c .if2 .taken))
 
 mul-taken : tie.Need-mul-taken
 mul-taken c =
@@ -31,7 +32,7 @@ returns-3 c =
     let s = at-if1 .before in
     let a = s .args in
     Checks.column-grid (a .run) (a .offered) (a .grid) (a .work)
-    (Checks.rows-right (at-if1 .if1 .left) (at-if2 .if2 .left)) (c .before .before .index .ensures)
+    (rows-right (at-if1 .if1 .left) (at-if2 .if2 .left)) (c .before .before .index .ensures)
     (c .before .index2 .ensures) (c .if3 .taken)
 
 returns-4 : tie.Need-returns-4
@@ -42,7 +43,7 @@ returns-4 c =
     let s = at-if1 .before in
     let a = s .args in
     Checks.column-limit (a .run) (a .offered) (a .grid) (a .work)
-    (Checks.rows-right (at-if1 .if1 .left) (at-if2 .if2 .left)) (at-index .index .ensures)
+    (rows-right (at-if1 .if1 .left) (at-if2 .if2 .left)) (at-index .index .ensures)
     (c .before .before .index2 .ensures) (c .before .if3 .left) (c .if4 .taken)
 
 returns-5 : tie.Need-returns-5
@@ -54,7 +55,7 @@ returns-5 c =
     let s = at-if1 .before in
     let a = s .args in
     Checks.column-ended (a .run) (a .offered) (a .grid) (a .work)
-    (Checks.rows-right (at-if1 .if1 .left) (at-if2 .if2 .left)) (at-index .index .ensures)
+    (rows-right (at-if1 .if1 .left) (at-if2 .if2 .left)) (at-index .index .ensures)
     (at-index2 .index2 .ensures) (c .before .before .if3 .left) (c .before .if4 .left) (c .if5 .taken)
 
 returns-6 : tie.Need-returns-6
@@ -67,7 +68,7 @@ returns-6 c =
     let s = at-if1 .before in
     let a = s .args in
     Checks.column-length (a .run) (a .offered) (a .grid) (a .work)
-    (Checks.rows-right (at-if1 .if1 .left) (at-if2 .if2 .left)) (at-index .index .ensures)
+    (rows-right (at-if1 .if1 .left) (at-if2 .if2 .left)) (at-index .index .ensures)
     (at-index2 .index2 .ensures) (at-if3 .if3 .left) (c .before .before .if4 .left) (c .before .if5 .left)
     (c .if6 .taken)
 
@@ -82,7 +83,7 @@ returns-7 c =
     let s = at-if1 .before in
     let a = s .args in
     Checks.column-cells (a .run) (a .offered) (a .grid) (a .work)
-    (Checks.rows-right (at-if1 .if1 .left) (at-if2 .if2 .left)) (at-index .index .ensures)
+    (rows-right (at-if1 .if1 .left) (at-if2 .if2 .left)) (at-index .index .ensures)
     (at-index2 .index2 .ensures) (at-if3 .if3 .left) (at-if4 .if4 .left) (c .before .before .if5 .left)
     (c .before .if6 .left) (c .if7 .taken)
 
@@ -98,7 +99,7 @@ returns-8 c =
     let s = at-if1 .before in
     let a = s .args in
     Checks.column-full (a .run) (a .offered) (a .grid) (a .work)
-    (Checks.rows-right (at-if1 .if1 .left) (at-if2 .if2 .left)) (at-index .index .ensures)
+    (rows-right (at-if1 .if1 .left) (at-if2 .if2 .left)) (at-index .index .ensures)
     (at-index2 .index2 .ensures) (at-if3 .if3 .left) (at-if4 .if4 .left) (at-if5 .if5 .left)
     (c .before .before .if6 .left) (c .before .if7 .left) (c .if8 .taken)
 
@@ -115,7 +116,7 @@ returns-9 c =
     let s = at-if1 .before in
     let a = s .args in
     Checks.column-work (a .run) (a .offered) (a .grid) (a .work)
-    (Checks.rows-right (at-if1 .if1 .left) (at-if2 .if2 .left)) (at-index .index .ensures)
+    (rows-right (at-if1 .if1 .left) (at-if2 .if2 .left)) (at-index .index .ensures)
     (at-index2 .index2 .ensures) (at-if3 .if3 .left) (at-if4 .if4 .left) (at-if5 .if5 .left) (at-if6 .if6 .left)
     (c .before .before .if7 .left) (c .before .if8 .left) (c .if9 .taken)
 
@@ -132,7 +133,7 @@ returns-10 c =
     let s = at-if1 .before in
     let a = s .args in
     Checks.column-fine (a .run) (a .offered) (a .grid) (a .work)
-    (Checks.rows-right (at-if1 .if1 .left) (at-if2 .if2 .left)) (at-index .index .ensures)
+    (rows-right (at-if1 .if1 .left) (at-if2 .if2 .left)) (at-index .index .ensures)
     (at-index2 .index2 .ensures) (at-if3 .if3 .left) (at-if4 .if4 .left) (at-if5 .if5 .left) (at-if6 .if6 .left)
     (c .before .before .if7 .left) (c .before .if8 .left) (c .if9 .left)
 
