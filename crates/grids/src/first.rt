@@ -5,12 +5,11 @@ ghost use mathlib.Core.Path.{_≡_};
 ghost use Prim.Native.Nat.{ℕ, _+_};
 ghost use Rattle.table.specs.Table.{Counted};
 ghost use Rattle.run.specs.Running.{takenOf};
-ghost use Rattle.run.specs.declared.Handed.the-variants.{Count};
+ghost use Rattle.record.specs.declared.Handed.the-variants.{Count};
 use crate::records::put;
-use list::Listed;
+use record::Handed;
 use record::Peak;
 use record::Refusal;
-use run::Handed;
 use run::Run;
 use second::Records;
 
@@ -37,10 +36,7 @@ pub fn whole(
     out: &mut Records,
 ) -> Told {
     let answer = list::flat(rows, heights, threshold, work, room);
-    match answer {
-        Listed::Count(n) => copied(work, heights.len(), n as usize, out),
-        Listed::Refused(refusal) => refused(refusal),
-    }
+    handed_out(answer, work, heights.len(), out)
 }
 
 // The column call.
@@ -76,7 +72,7 @@ pub fn end(run: Run, grid: &[i32], work: &mut [u8], room: usize, out: &mut Recor
     }
 }
 
-// What a column or an end call tells.
+// What a call tells.
 fn handed_out(handed: Handed, work: &[u8], cells: usize, out: &mut Records) -> Told
     requires { ⌜ ((n : ℕ) → handed ≡ Count n → Counted (now work) cells n) ⌝ }
 {

@@ -19,20 +19,20 @@ use Rattle.relief.proofs.Surveying.{survey, survey-list}
 use Rattle.relief.proofs.Plane.{plane?}
 use Rattle.relief.proofs.PlaneRun.{plane-terrain}
 use Rattle.record.specs.declared.Peak.{Peak}
+use Rattle.record.specs.declared.Handed.{Handed}
+use Rattle.record.specs.declared.Handed.the-variants.{Count, Refused}
 use Rattle.record.specs.declared.Refusal.{Refusal}
 use Rattle.record.specs.declared.Refusal.the-variants.{Rows, Length, Cells, Work, Table}
 use Rattle.record.specs.Records.{recordOf}
 use Rattle.record.proofs.Refusals.{rows-none, rows-many, rows-right}
 use Rattle.words.specs.Area.{levelIn}
 use Rattle.sweep.specs.Taking.{cut}
-use Rattle.table.specs.Table.{Counted, recordsIn, Fillable}
-use Rattle.table.proofs.Laws.{filled-start}
+use Rattle.table.specs.Table.{Counted, recordsIn, Fillable, countIn, cellsIn, tableAfter}
+use Rattle.table.proofs.Handing.{handed-fillable, handed-filled}
 use Rattle.survey.specs.Answers.{entriesIn, Loaded, Answered}
 use Rattle.survey.proofs.Recording.{places-record, places-length}
 use Rattle.survey.proofs.Marking.{loaded-levels}
-use Rattle.list.specs.declared.Listed as Answer
-use Rattle.list.specs.declared.Listed.the-variants.{Count, Refused}
-use Rattle.list.specs.Listing.{listAnswer, listTable, Lists, Flat, countIn, cellsIn}
+use Rattle.list.specs.Listing.{listAnswer, Lists, Flat}
 
 -- ---- the list
 
@@ -155,44 +155,28 @@ module _ {rows : ℕ} {heights : List ℤ} {T work room : ℕ} {left : List ℕ}
 
 -- ---- the row
 
-counted-none : (s : List ℕ) → Counted s 0 0
-counted-none s = record {
-  area = record { few = omega arith; room = omega arith };
-  few = omega arith;
-  cells = λ i l. absurd (omega arith);
-  passes = λ i l. absurd (omega arith);
-}
-
 module _ {rows : ℕ} {heights : List ℤ} {T work : ℕ} (table : List Peak) {left : List ℕ} where
-  pub flat-fillable : (a : Answer.Listed) → Flat rows heights T work (length table) left a
+  pub flat-fillable : (a : Handed) → Flat rows heights T work (length table) left a
       → Fillable table left (cellsIn a (length heights)) (countIn a)
-  flat-fillable (Count n) h = record { counted = h .counted n refl .0; room = h .counted n refl .1 }
-  flat-fillable (Refused r) h = record { counted = counted-none left; room = omega arith }
+  flat-fillable a h = handed-fillable table left a (λ n e. refl) (h .counted)
 
-  -- the row begins with the records of the list, or is as it was
-  row-filled : (a : Answer.Listed) → (h : Flat rows heights T work (length table) left a)
-      → recordsIn left (cellsIn a (length heights)) (countIn a) ++ drop (countIn a) table
-      ≡ listTable a (map recordOf (h .list)) table
-  row-filled (Count n) h = ap (λ (l : List Peak). l ++ drop n table) (h .records n refl)
-  row-filled (Refused r) h = filled-start table left 0
-
-  pub flat-lists : (a : Answer.Listed) → Flat rows heights T work (length table) left a → {t : List Peak}
+  pub flat-lists : (a : Handed) → Flat rows heights T work (length table) left a → {t : List Peak}
       → t ≡ recordsIn left (cellsIn a (length heights)) (countIn a) ++ drop (countIn a) table
       → Lists rows heights T work table t a
   flat-lists a h e = record {
     list = h .list;
     right = h .right;
     answered = h .answered;
-    filled = e ∙ row-filled a h;
+    filled = e ∙ handed-filled table left a (λ n q. refl) (h .records);
   }
 
 -- ---- one answer
 
-pub list-unique : {rows : ℕ} {heights : List ℤ} {T work : ℕ} {table t u : List Peak} {a b : Answer.Listed}
+pub list-unique : {rows : ℕ} {heights : List ℤ} {T work : ℕ} {table t u : List Peak} {a b : Handed}
     → Lists rows heights T work table t a → Lists rows heights T work table u b → (a ≡ b) × (t ≡ u)
 list-unique {rows} {heights} {T} {work} {table} {t} {u} {a} {b} h k =
     let e : h .list ≡ k .list = order-unique (h .list) (k .list) (h .right) (k .right) in
     let q : a ≡ b = h .answered
     ∙ ap (λ (l : List Entry). listAnswer rows (length heights) work (length table) (length l)) e ∙ sym (k .answered) in
-    let f = ap₂ (λ (x : Answer.Listed) (l : List Entry). listTable x (map recordOf l) table) q e in
+    let f = ap₂ (λ (x : Handed) (l : List Entry). tableAfter x (map recordOf l) table) q e in
     (q, h .filled ∙ f ∙ sym (k .filled))

@@ -7,12 +7,12 @@ use mathlib.Core.List.{List}
 use Prim.Native.Nat.{ℕ}
 use lib.IntN.{ℤ}
 use Rattle.record.specs.declared.Peak.{Peak}
-use Rattle.list.specs.declared.Listed.{Listed}
+use Rattle.record.specs.declared.Handed.{Handed}
 use Rattle.list.specs.Listing.{Lists}
 
 -- Two answers and two rows that `Lists` allows of one call are equal.
 abbrev pub ListUnique : Type 0
-ListUnique = (rows : ℕ) (heights : List ℤ) (T work : ℕ) (table t t′ : List Peak) (r r′ : Listed)
+ListUnique = (rows : ℕ) (heights : List ℤ) (T work : ℕ) (table t t′ : List Peak) (r r′ : Handed)
     → Lists rows heights T work table t r → Lists rows heights T work table t′ r′ → (r ≡ r′) × (t ≡ t′)
 
 pub record Claims : Type 0 where

@@ -1,16 +1,15 @@
 -- The whole-grid call: sections "What comes back" and "Peak, outranking ground, key height, pass" of document 01.
 --     listAnswer        the answer, by the tests in the paper's order
---     listTable         the row of records after the call
 --     Lists             the promise of the call: it determines the answer and the row on all inputs
 --     Flat              the promise of the call without the row: what is left in the work area
 -- Assumes nothing.
 use mathlib.Core.Path.{_≡_}
 use mathlib.Core.Bool.{not, cond}
-use mathlib.Core.List.{List, _++_, map}
+use mathlib.Core.List.{List, map}
 use Prim.Native.Nat.{ℕ, _*_, _%_, _≤_}
 use lib.Dec.{eqb, ltb}
 use lib.IntN.{ℤ}
-use lib.ListN.{length, drop}
+use lib.ListN.{length}
 use Rattle.relief.specs.Heights.{levels}
 use Rattle.relief.specs.Peaks.{Entry, ListOf}
 use Rattle.relief.specs.Plane.{Plane}
@@ -18,12 +17,12 @@ use Rattle.record.specs.declared.Peak.{Peak}
 use Rattle.record.specs.declared.Refusal.the-variants.{Rows, Length, Cells, Work, Table}
 use Rattle.record.specs.Records.{recordOf}
 use Rattle.record.specs.Refusals.{badRows}
-use Rattle.table.specs.Table.{Counted, recordsIn}
-use Rattle.list.specs.declared.Listed.{Listed}
-use Rattle.list.specs.declared.Listed.the-variants.{Count, Refused}
+use Rattle.table.specs.Table.{Counted, recordsIn, tableAfter}
+use Rattle.record.specs.declared.Handed.{Handed}
+use Rattle.record.specs.declared.Handed.the-variants.{Count, Refused}
 
 -- "List: 1, 2, 3, 4, 5." `work` is in bytes, 16 for "4 numbers of 32 bits per cell". `room` and `needed` count records.
-unfoldable pub listAnswer : ℕ → ℕ → ℕ → ℕ → ℕ → Listed
+unfoldable pub listAnswer : ℕ → ℕ → ℕ → ℕ → ℕ → Handed
 listAnswer rows cells work room needed =
     -- "rows are 0 or above 1,024"
     cond (badRows rows) (Refused Rows)
@@ -36,31 +35,18 @@ listAnswer rows cells work room needed =
     -- "peak table too short"; also returns "the number of records needed"
     (cond (ltb room needed) (Refused (Table needed)) (Count needed)))))
 
--- "A refusal [..] writes nothing"; "On success table entries [..] beyond those counted stay as they were."
-abbrev pub listTable : Listed → List Peak → List Peak → List Peak
-listTable (Count n) records table = records ++ drop n table
-listTable (Refused r) records table = table
-
--- The list of the definition is there for every grid and is one (`ListExists`, `OrderUnique` of `relief`). The heights
+-- The list of the definition is there for every grid and is one (`list-exists`, `order-unique` of `theorems`). The heights
 -- are lent to be read, and the work area's contents are left open (docs/EXCEPTIONS.md).
-pub record Lists (rows : ℕ) (heights : List ℤ) (T work : ℕ) (table table′ : List Peak) (answer : Listed) : Type 0 where
+pub record Lists (rows : ℕ) (heights : List ℤ) (T work : ℕ) (table table′ : List Peak) (answer : Handed) : Type 0 where
   pub list : List Entry
   pub right : ListOf (Plane rows) (levels heights) T list
   pub answered : answer ≡ listAnswer rows (length heights) work (length table) (length list)
-  pub filled : table′ ≡ listTable answer (map recordOf list) table
+  pub filled : table′ ≡ tableAfter answer (map recordOf list) table
 
 -- The same where only the room of the row is known: the records stand in the work area `left`.
-pub record Flat (rows : ℕ) (heights : List ℤ) (T work room : ℕ) (left : List ℕ) (answer : Listed) : Type 0 where
+pub record Flat (rows : ℕ) (heights : List ℤ) (T work room : ℕ) (left : List ℕ) (answer : Handed) : Type 0 where
   pub list : List Entry
   pub right : ListOf (Plane rows) (levels heights) T list
   pub answered : answer ≡ listAnswer rows (length heights) work room (length list)
   pub counted : (n : ℕ) → answer ≡ Count n → Counted left (length heights) n × (n ≤ room)
   pub records : (n : ℕ) → answer ≡ Count n → recordsIn left (length heights) n ≡ map recordOf list
-
-abbrev pub countIn : Listed → ℕ
-countIn (Count n) = n
-countIn (Refused r) = 0
-
-abbrev pub cellsIn : Listed → ℕ → ℕ
-cellsIn (Count n) cells = cells
-cellsIn (Refused r) cells = 0

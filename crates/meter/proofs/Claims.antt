@@ -7,7 +7,7 @@ use Prim.Native.Nat.{_*_, _/_}
 use lib.ListN.{length, drop}
 use Rattle.relief.specs.Peaks.{Entry}
 use Rattle.relief.proofs.Listing.{order-unique}
-use Rattle.run.specs.declared.Handed.{Handed}
+use Rattle.record.specs.declared.Handed.{Handed}
 use Rattle.run.specs.Running.{columnCheck, handedAnswer}
 use Rattle.layout.specs.declared.ReadBack.{ReadBack}
 use Rattle.layout.specs.Layout.{bytesOf, recordsOf, recordsIn, heightsIn, cellsIn, peaksIn}

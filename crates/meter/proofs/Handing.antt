@@ -10,13 +10,13 @@ use lib.IntN.{ℤ}
 use lib.ListN.{length, drop}
 use Rattle.relief.specs.Peaks.{Entry}
 use Rattle.record.specs.declared.Peak.{Peak}
+use Rattle.record.specs.declared.Handed.{Handed}
+use Rattle.record.specs.declared.Handed.the-variants.{Count, Refused}
 use Rattle.record.specs.Records.{recordOf}
-use Rattle.table.specs.Table.{Counted, recordsIn}
+use Rattle.table.specs.Table.{Counted, recordsIn, countIn, cellsIn}
+use Rattle.table.proofs.Handing.{counted-none}
 use Rattle.run.specs.declared.Run.{Run}
-use Rattle.run.specs.declared.Handed.{Handed}
-use Rattle.run.specs.declared.Handed.the-variants.{Count, Refused}
-use Rattle.run.specs.Running.{takenOf, countIn, cellsIn, FlatColumn}
-use Rattle.run.proofs.Rows.{counted-none}
+use Rattle.run.specs.Running.{takenOf, FlatColumn}
 use Rattle.layout.specs.Layout.{bytesOf, recordsOf}
 use Rattle.meter.specs.Metered.{handedBytes}
 

@@ -20,8 +20,8 @@ use Rattle.words.specs.Words.{wordAt}
 use Rattle.record.specs.declared.Peak.{Peak}
 use Rattle.record.specs.Records.{recordOf}
 use Rattle.run.specs.declared.Run.{Run}
-use Rattle.run.specs.declared.Handed.{Handed}
-use Rattle.run.specs.declared.Handed.the-variants.{Count, Refused}
+use Rattle.record.specs.declared.Handed.{Handed}
+use Rattle.record.specs.declared.Handed.the-variants.{Count, Refused}
 use Rattle.run.specs.Running.{columnCheck, handedAnswer, columnGrid, heightsWith}
 use Rattle.layout.specs.declared.Written.{Written}
 use Rattle.layout.specs.declared.ReadBack.{ReadBack}

@@ -11,9 +11,9 @@ ghost use Rattle.meter.specs.Numbers.{refusedNumber, handedNumber, writt
 ghost use Rattle.meter.specs.Metered.{peakOf, peaksOf, MeterColumns, MeterWrites, MeterReads};
 use layout::ReadBack;
 use layout::Written;
+use record::Handed;
 use record::Peak;
 use record::Refusal;
-use run::Handed;
 use run::Run;
 
 // ---- answers as numbers
@@ -88,8 +88,8 @@ pub extern "C" fn meter_column(
     };
     let step = run::column_flat(run, column, grid, work, table.len() / 16);
     let handed = step.handed;
-    let cells = run::cells_of(handed, cells_with(rows, columns));
-    layout::lay_records(table, work, cells, run::count_of(handed));
+    let cells = table::cells_of(handed, cells_with(rows, columns));
+    layout::lay_records(table, work, cells, table::count_of(handed));
     handed_number(handed)
 }
 

@@ -3,8 +3,8 @@ ghost use Rattle.table.specs.Table.{Counted};
 use layout::ReadBack;
 use libc::STDIN_FILENO;
 use libc::STDOUT_FILENO;
-use list::Listed;
 use record::Cell;
+use record::Handed;
 use record::Peak;
 use record::Refusal;
 
@@ -92,11 +92,11 @@ fn say_list(rows: u32, columns: u32, heights: &[i32]) {
     let mut work = [0u8; 65536];
     let answer = list::flat(rows, heights, 1, &mut work, MOST_CELLS);
     match answer {
-        Listed::Count(n) => {
+        Handed::Count(n) => {
             say_head(rows, columns, n);
             say_records(&work, heights.len(), n as usize);
         }
-        Listed::Refused(refusal) => say_refusal(record::number(refusal)),
+        Handed::Refused(refusal) => say_refusal(record::number(refusal)),
     }
 }
 

@@ -120,6 +120,12 @@ pub enum Refusal {
     Room { needed: u32 },
 }
 
+// What a call that fills a peak table answers: how many peaks are handed out, or why it is refused.
+pub enum Handed {
+    Count(u32),
+    Refused(Refusal),
+}
+
 // The number of a refusal in that table.
 pub fn number(refusal: Refusal) -> u32
     ensures { λ r. ⌜ r ≡ toldOf refusal .number ⌝ }

@@ -35,7 +35,7 @@ use Rattle.table.specs.Table.{Counted, recordsIn}
 use Rattle.survey.specs.Answers.{entriesIn, Loaded, Answered, stageIn}
 use Rattle.survey.proofs.Recording.{places-record, places-length}
 use Rattle.run.specs.declared.Run.{Run}
-use Rattle.run.specs.declared.Handed.the-variants.{Count, Refused}
+use Rattle.record.specs.declared.Handed.the-variants.{Count, Refused}
 use Rattle.run.specs.declared.Checked.{Checked}
 use Rattle.run.specs.declared.Checked.the-variants.{Good, Bad}
 use Rattle.run.specs.Running.{

@@ -1,25 +1,22 @@
 -- The lent row of records, filled from what a flat call leaves in the work area.
---     counted-none                       no record of no cell can be read
---     handed-fillable, handed-filled     the row after an answer, where the cells are those of the records counted
 --     end-fillable, column-fillable      what the flat call leaves may be filled into the row; at a refusal, no record
 --     end-filled, column-filled          the row that is filled so keeps the promise of the whole call
 -- The number of cells is read off the run record after the call: a column that is taken counts in it.
 -- Assumes nothing.
-use mathlib.Core.Path.{_≡_, refl, sym, _∙_, ap, subst}
+use mathlib.Core.Path.{_≡_, _∙_, ap}
 use mathlib.Core.List.{List, _++_}
-use Prim.Native.Nat.{ℕ, _+_, _*_, _≤_}
+use Prim.Native.Nat.{ℕ, _+_, _*_}
 use native.Mathlib.Nat.{suc-mul}
 use native.Mathlib.Numerals.{add-one}
-use native.Mathlib.Omega.{arith}
 use lib.IntN.{ℤ}
 use lib.ListN.{length, drop}
 use Rattle.record.specs.declared.Peak.{Peak}
-use Rattle.table.specs.Table.{Counted, recordsIn, Fillable}
-use Rattle.table.proofs.Laws.{filled-start}
+use Rattle.record.specs.declared.Handed.{Handed}
+use Rattle.record.specs.declared.Handed.the-variants.{Count}
+use Rattle.table.specs.Table.{recordsIn, Fillable, countIn, cellsIn}
+use Rattle.table.proofs.Handing.{handed-fillable, handed-filled}
 use Rattle.run.specs.declared.Run.{Run}
-use Rattle.run.specs.declared.Handed.{Handed}
-use Rattle.run.specs.declared.Handed.the-variants.{Count, Refused}
-use Rattle.run.specs.Running.{takenOf, columnRun, endRun, tableAfter, countIn, cellsIn}
+use Rattle.run.specs.Running.{takenOf, columnRun, endRun}
 use Rattle.run.specs.Running.{Columns, Ends, FlatColumn, FlatEnd}
 
 -- ---- the cells that a run record counts after a call
@@ -33,34 +30,6 @@ column-taken : (run : Run) {after : Run} (a : Handed) → after ≡ columnRun a 
 column-taken run a e n q =
     ap takenOf (e ∙ ap (λ (x : Handed). columnRun x run) q) ∙ ap (λ (k : ℕ). k * run .rows) (add-one (run .columns))
     ∙ suc-mul (run .columns) (run .rows)
-
--- ---- the row
-
-pub counted-none : (s : List ℕ) → Counted s 0 0
-counted-none s = record {
-  area = record { few = omega arith; room = omega arith };
-  few = omega arith;
-  cells = λ i l. absurd (omega arith);
-  passes = λ i l. absurd (omega arith);
-}
-
--- m cells are counted after an answer that hands records out, which stand behind so many cells
-module _ (table : List Peak) (left : List ℕ) {cells m : ℕ} where
-  handed-fillable : (a : Handed) → ((n : ℕ) → a ≡ Count n → m ≡ cells)
-      → ((n : ℕ) → a ≡ Count n → Counted left cells n × (n ≤ length table))
-      → Fillable table left (cellsIn a m) (countIn a)
-  handed-fillable (Count n) e h = record {
-    counted = subst (λ (k : ℕ). Counted left k n) (sym (e n refl)) (h n refl .0);
-    room = h n refl .1;
-  }
-  handed-fillable (Refused r) e h = record { counted = counted-none left; room = omega arith }
-
-  handed-filled : (a : Handed) {records : List Peak} → ((n : ℕ) → a ≡ Count n → m ≡ cells)
-      → ((n : ℕ) → a ≡ Count n → recordsIn left cells n ≡ records)
-      → recordsIn left (cellsIn a m) (countIn a) ++ drop (countIn a) table ≡ tableAfter a records table
-  handed-filled (Count n) e h =
-      ap (λ (l : List Peak). l ++ drop n table) (ap (λ (k : ℕ). recordsIn left k n) (e n refl) ∙ h n refl)
-  handed-filled (Refused r) e h = filled-start table left 0
 
 -- ---- End
 

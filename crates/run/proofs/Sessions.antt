@@ -24,10 +24,11 @@ use Rattle.relief.proofs.Listing.{order-unique}
 use Rattle.theorems.proofs.Claims.{claims}
 use Rattle.record.specs.declared.Refusal.{Refusal}
 use Rattle.record.specs.Records.{recordOf}
+use Rattle.table.specs.Table.{tableAfter}
 use Rattle.record.specs.Refusals.{badRows}
 use Rattle.run.specs.declared.Run.{Run}
-use Rattle.run.specs.declared.Handed.{Handed}
-use Rattle.run.specs.declared.Handed.the-variants.{Count, Refused}
+use Rattle.record.specs.declared.Handed.{Handed}
+use Rattle.record.specs.declared.Handed.the-variants.{Count, Refused}
 use Rattle.run.specs.declared.Checked.{Checked}
 use Rattle.run.specs.declared.Checked.the-variants.{Good, Bad}
 use Rattle.run.specs.declared.Started.{Started}
@@ -40,7 +41,6 @@ use Rattle.run.specs.Running.{
   endCheck,
   columnRun,
   endRun,
-  tableAfter,
 }
 use Rattle.run.specs.Sessions.{Calls, started, accepted, refused, unended}
 use Rattle.run.specs.Claims.{ColumnUnique, EndUnique, SessionHolds}

@@ -10,8 +10,8 @@ use lib.ListN.{take}
 use Rattle.relief.specs.Peaks.{Entry}
 use Rattle.record.specs.declared.Peak.{Peak}
 use Rattle.run.specs.declared.Run.{Run}
-use Rattle.run.specs.declared.Handed.{Handed}
-use Rattle.run.specs.declared.Handed.the-variants.{Count}
+use Rattle.record.specs.declared.Handed.{Handed}
+use Rattle.record.specs.declared.Handed.the-variants.{Count}
 use Rattle.run.specs.Running.{takenOf, Columns, Ends}
 use Rattle.run.specs.Sessions.{Calls, HoldsList}
 

@@ -1,7 +1,7 @@
 -- A growing run: sections "A growing run" and "What comes back" of document 01.
 --     startAnswer           the answer of Start
 --     columnCheck, endCheck the tests before the work, in the paper's order
---     columnGrid, columnRun, tableAfter   the grid, the run record and the row of records after a call
+--     columnGrid, columnRun the grid and the run record after a call
 --     Columns, Ends         the promises of Column and End: they determine the answer, the record and all that was lent
 --     FlatColumn, FlatEnd   the same without the row: what is left in the work area
 -- Assumes nothing.
@@ -11,12 +11,14 @@ use mathlib.Core.List.{List, _++_, map}
 use Prim.Native.Nat.{ℕ, suc, _+_, _*_, _≤_, _<_}
 use lib.Dec.{eqb, ltb}
 use lib.IntN.{ℤ}
-use lib.ListN.{length, take, drop}
+use lib.ListN.{length, take}
 use lib.Seq.{paste}
 use Rattle.relief.specs.Peaks.{Entry}
 use Rattle.relief.specs.Runs.{Batch, Rest}
 use Rattle.relief.specs.Plane.{Plane, stageOf}
 use Rattle.record.specs.declared.Peak.{Peak}
+use Rattle.record.specs.declared.Handed.{Handed}
+use Rattle.record.specs.declared.Handed.the-variants.{Count, Refused}
 use Rattle.record.specs.declared.Refusal.the-variants.{
   Rows,
   Cells,
@@ -29,12 +31,10 @@ use Rattle.record.specs.declared.Refusal.the-variants.{
 }
 use Rattle.record.specs.Records.{recordOf}
 use Rattle.record.specs.Refusals.{badRows}
-use Rattle.table.specs.Table.{Counted, recordsIn}
+use Rattle.table.specs.Table.{Counted, recordsIn, tableAfter}
 use Rattle.run.specs.declared.Run.{Run}
 use Rattle.run.specs.declared.Started.{Started}
 use Rattle.run.specs.declared.Started.the-variants as Started
-use Rattle.run.specs.declared.Handed.{Handed}
-use Rattle.run.specs.declared.Handed.the-variants.{Count, Refused}
 use Rattle.run.specs.declared.Checked.{Checked}
 use Rattle.run.specs.declared.Checked.the-variants.{Good, Bad}
 
@@ -97,11 +97,6 @@ endRun (Count n) run =
     record { rows = run .rows; columns = run .columns; threshold = run .threshold; ended = true }
 endRun (Refused r) run = run
 
--- "A refusal [..] writes nothing"; "On success table entries [..] beyond those counted stay as they were."
-abbrev pub tableAfter : Handed → List Peak → List Peak → List Peak
-tableAfter (Count n) records table = records ++ drop n table
-tableAfter (Refused r) records table = table
-
 -- the taken cells and the offered column behind them
 abbrev pub heightsWith : Run → List ℤ → List ℤ → List ℤ
 heightsWith run column grid = take (takenOf run) grid ++ column
@@ -163,11 +158,3 @@ pub record GoodEnd (run : Run) (grid work : ℕ) : Type 0 where
   pub cells : takenOf run ≤ 1048576
   pub fits : takenOf run ≤ grid
   pub space : 16 * takenOf run ≤ work
-
-abbrev pub countIn : Handed → ℕ
-countIn (Count n) = n
-countIn (Refused r) = 0
-
-abbrev pub cellsIn : Handed → ℕ → ℕ
-cellsIn (Count n) cells = cells
-cellsIn (Refused r) cells = 0

@@ -16,7 +16,7 @@ use Rattle.record.specs.declared.Peak.{Peak}
 use Rattle.record.specs.declared.Refusal.{Refusal}
 use Rattle.run.specs.declared.Run.{Run}
 use Rattle.run.specs.declared.Started.the-variants as Started
-use Rattle.run.specs.declared.Handed.the-variants.{Count, Refused}
+use Rattle.record.specs.declared.Handed.the-variants.{Count, Refused}
 use Rattle.run.specs.Running.{takenOf, startAnswer, Columns, Ends}
 
 -- Refused calls of Column and End may stand between accepted ones, with any grid that still holds the taken cells.

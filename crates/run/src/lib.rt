@@ -4,8 +4,9 @@ ghost use Prim.Native.Nat.{_+_, _*_, _≤_};
 ghost use lib.ListN.{length};
 ghost use lib.Seq.{paste};
 ghost use Rattle.run.specs.Running.{startAnswer, columnCheck, endCheck, GoodColumn, GoodEnd, FlatColumn, FlatEnd};
-ghost use Rattle.run.specs.Running.{Columns, Ends, takenOf, countIn, cellsIn};
+ghost use Rattle.run.specs.Running.{Columns, Ends, takenOf};
 use record::Cell;
+use record::Handed;
 use record::Peak;
 use record::Refusal;
 
@@ -20,12 +21,6 @@ pub struct Run {
 // What Start answers: a record of zero columns, or why it is refused.
 pub enum Started {
     Begun(Run),
-    Refused(Refusal),
-}
-
-// What Column and End answer beside the run record: how many peaks are handed out, or why the call is refused.
-pub enum Handed {
-    Count(u32),
     Refused(Refusal),
 }
 
@@ -238,26 +233,6 @@ pub fn end_flat(run: Run, grid: &[i32], work: &mut [u8], room: usize) -> Step
     }
 }
 
-// How many records an answer has: none where it is a refusal.
-pub fn count_of(handed: Handed) -> usize
-    ensures { λ r. ⌜ r ≡ countIn handed ⌝ }
-{
-    match handed {
-        Handed::Count(n) => n as usize,
-        Handed::Refused(_) => 0,
-    }
-}
-
-// The cells of the work area that an answer is read from: none where it is a refusal.
-pub fn cells_of(handed: Handed, cells: usize) -> usize
-    ensures { λ r. ⌜ r ≡ cellsIn handed cells ⌝ }
-{
-    match handed {
-        Handed::Count(_) => cells,
-        Handed::Refused(_) => 0,
-    }
-}
-
 // The cells that a run record says are taken. Two numbers of 32 bits have a product of 64.
 fn taken_cells(run: Run) -> usize
     ensures { λ r. ⌜ r ≡ takenOf run ⌝ }
@@ -280,8 +255,8 @@ pub fn column(
     let step = column_flat(run, column, grid, work, room);
     let after = step.run;
     let handed = step.handed;
-    let cells = cells_of(handed, taken_cells(after));
-    let count = count_of(handed);
+    let cells = table::cells_of(handed, taken_cells(after));
+    let count = table::count_of(handed);
     table::fill(table, work, cells, count);
     step
 }
@@ -295,8 +270,8 @@ pub fn end(run: Run, grid: &[i32], work: &mut [u8], table: &mut [Peak]) -> Step
     let step = end_flat(run, grid, work, room);
     let after = step.run;
     let handed = step.handed;
-    let cells = cells_of(handed, taken_cells(after));
-    let count = count_of(handed);
+    let cells = table::cells_of(handed, taken_cells(after));
+    let count = table::count_of(handed);
     table::fill(table, work, cells, count);
     step
 }

@@ -2,3 +2,5 @@ pub mod Laws
 pub mod Locals
 pub mod Again
 pub mod Filling
+pub mod Handing
+pub mod Calls

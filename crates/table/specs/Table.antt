@@ -4,15 +4,19 @@
 --     recordsIn s n count     the records of the first so many cells of the order quarter
 --     Fillable t s n count    the row t has room for them, and the work area s holds cells where they are asked for
 --     Counted s n count       so many listed cells stand in the order quarter, each with a pass cell
+--     countIn a, cellsIn a n  how many records an answer has, and how many of n cells it is read from
+--     tableAfter a rs t       the row t after an answer that hands out the records rs
 -- Assumes nothing.
 use mathlib.Core.Bool.{true, false}
 use mathlib.Core.List.{List, [], _∷_, _++_}
 use Prim.Native.Nat.{ℕ, zero, suc, _≤_, _<_}
 use lib.Dec.{eqb}
-use lib.ListN.{length}
+use lib.ListN.{length, drop}
 use Rattle.relief.specs.Heights.{heightOf}
 use Rattle.words.specs.Area.{Area, levelIn, orderIn, parentIn, passIn, cellIn}
 use Rattle.record.specs.declared.Peak.{Peak}
+use Rattle.record.specs.declared.Handed.{Handed}
+use Rattle.record.specs.declared.Handed.the-variants.{Count, Refused}
 use Rattle.record.specs.Records.{withKey, withoutKey}
 
 -- What is asked of one cell, so that its record can be read.
@@ -43,3 +47,16 @@ pub record Counted (s : List ℕ) (n count : ℕ) : Type 0 where
 pub record Fillable (t : List Peak) (s : List ℕ) (n count : ℕ) : Type 0 where
   pub counted : Counted s n count
   pub room : count ≤ length t
+
+abbrev pub countIn : Handed → ℕ
+countIn (Count n) = n
+countIn (Refused r) = 0
+
+abbrev pub cellsIn : Handed → ℕ → ℕ
+cellsIn (Count n) cells = cells
+cellsIn (Refused r) cells = 0
+
+-- "A refusal [..] writes nothing"; "On success table entries [..] beyond those counted stay as they were."
+abbrev pub tableAfter : Handed → List Peak → List Peak → List Peak
+tableAfter (Count n) records table = records ++ drop n table
+tableAfter (Refused r) records table = table

@@ -4,7 +4,8 @@ ghost use mathlib.Core.List.{_++_};
 ghost use Prim.Native.Nat.{_<_};
 ghost use lib.ListN.{drop};
 ghost use Rattle.words.specs.Area.{orderIn};
-ghost use Rattle.table.specs.Table.{Pointed, peakIn, recordsIn, Fillable};
+ghost use Rattle.table.specs.Table.{Pointed, peakIn, recordsIn, Fillable, countIn, cellsIn};
+use record::Handed;
 use record::Peak;
 
 // The record of the peak at the cell `c`.
@@ -44,5 +45,25 @@ pub fn fill(table: &mut [Peak], work: &[u8], n: usize, count: usize)
     while i < count {
         table[i] = record_at(work, n, i);
         i += 1;
+    }
+}
+
+// How many records an answer has: none where it is a refusal.
+pub fn count_of(handed: Handed) -> usize
+    ensures { λ r. ⌜ r ≡ countIn handed ⌝ }
+{
+    match handed {
+        Handed::Count(n) => n as usize,
+        Handed::Refused(_) => 0,
+    }
+}
+
+// The cells of the work area that an answer is read from: none where it is a refusal.
+pub fn cells_of(handed: Handed, cells: usize) -> usize
+    ensures { λ r. ⌜ r ≡ cellsIn handed cells ⌝ }
+{
+    match handed {
+        Handed::Count(_) => cells,
+        Handed::Refused(_) => 0,
     }
 }

@@ -48,16 +48,16 @@ use Rattle.record.proofs.Peak as T
 use Rattle.table.proofs.Filling.{Fill, Filled, fill-known, calls-fill}
 use Rattle.table.proofs.Locals.{localAt, copied, release}
 use Rattle.table.proofs.fill.Symbol.{name as #table·fill}
-use Rattle.list.specs.declared.Listed.{Listed}
-use Rattle.list.specs.Listing.{countIn, cellsIn}
+use Rattle.record.specs.declared.Handed.{Handed}
+use Rattle.table.specs.Table.{countIn, cellsIn}
 use Rattle.list.proofs.list.Proof.Calling.{FlatCall, flat-known, Left, calls-flat}
 use Rattle.list.proofs.Answers.{flat-fillable, flat-lists}
-use Rattle.list.proofs.Calls.{CellsOf, CountOf, cells-known, count-known, calls-cells, calls-count}
-use Rattle.list.proofs.Listed as S
-use Rattle.list.proofs.Listed.Laws as S′
+use Rattle.table.proofs.Calls.{CellsOf, CountOf, cells-known, count-known, calls-cells, calls-count}
+use Rattle.record.proofs.Handed as S
+use Rattle.record.proofs.Handed.Laws as S′
 use Rattle.list.proofs.flat.Symbol.{name as #list·flat}
-use Rattle.list.proofs.cells_of.Symbol.{name as #list·cells-of}
-use Rattle.list.proofs.count_of.Symbol.{name as #list·count-of}
+use Rattle.table.proofs.cells_of.Symbol.{name as #table·cells-of}
+use Rattle.table.proofs.count_of.Symbol.{name as #table·count-of}
 use Rattle.list.proofs.list.Key.{name as #list·list}
 use Rattle.list.proofs.list as list
 use Rattle.list.proofs.list.Statement as stated
@@ -122,11 +122,11 @@ module _ {M : Type 1} (𝓤 : URA M) (H : Heap 𝓤) (A : Atoms 𝓤) (W : Given
   Work l = MutSlice (named 1) κ₁ u8 .own (x γ l) (wv ∷ [])
 
   -- how many cells the work area has numbers of
-  abbrev n : Listed → ℕ
+  abbrev n : Handed → ℕ
   n r = cellsIn r (length (h .now))
 
   -- ---- the end
-  exits : (r : Listed) (u : Val) → Is S.the-row r (u ∷ []) → (zs : List ℕ) → Left rows (h .now) threshold ys room r zs
+  exits : (r : Handed) (u : Val) → Is S.the-row r (u ∷ []) → (zs : List ℕ) → Left rows (h .now) threshold ys room r zs
       → (ts : List Peak) → Filled t zs (n r) (countIn r) ts
       → ent 𝓤 (⋆ 𝓤 H A (‵ (flft κ₀ q₀) ∷ ‵ (flft κ₁ q₁) ∷ ‵ (flft κ₂ q₂) ∷ ‵ Hts ∷ ‵ (Work zs)
       ∷ ‵ (finally R (t .name) ts) ∷ [])) (Post u)
@@ -146,8 +146,8 @@ module _ {M : Type 1} (𝓤 : URA M) (H : Heap 𝓤) (A : Atoms 𝓤) (W : Given
 
   module _ (C : Calls 𝓤 H) (Λ : Loops 𝓤 H) (fm : FmC 𝓤 H (W .laws) C)
       (known-flat : Triple 𝓤 (C #list·flat) (FlatCall 𝓤 H A mem run))
-      (known-cells : Triple 𝓤 (C #list·cells-of) (CellsOf 𝓤 H A mem run))
-      (known-count : Triple 𝓤 (C #list·count-of) (CountOf 𝓤 H A mem run))
+      (known-cells : Triple 𝓤 (C #table·cells-of) (CellsOf 𝓤 H A mem run))
+      (known-count : Triple 𝓤 (C #table·count-of) (CountOf 𝓤 H A mem run))
       (known-fill : Triple 𝓤 (C #table·fill) (Fill 𝓤 H A mem run)) where
     walk : ent 𝓤 (onEntry 𝓤 H A list.signature (κ₀, (κ₁, (κ₂, tt))) (q₀, (q₁, (q₂, tt))) a vals)
         (WpFn 𝓤 H C Λ code.function (vint w32 rows ∷ hv ∷ vint w32 threshold ∷ wv ∷ tv ∷ []) Post)
@@ -225,8 +225,8 @@ module _ {M : Type 1} (𝓤 : URA M) (H : Heap 𝓤) (A : Atoms 𝓤) (W : Given
 
 module _ {M : Type 1} (𝓤 : URA M) (H : Heap 𝓤) (A : Atoms 𝓤) (W : Given 𝓤 H A) (mem : Memory → SProp 𝓤)
     (run : Routine → Fun 𝓤) (𝓣 : Tables 𝓤 H) (known-flat : Triple 𝓤 (𝓣 .C #list·flat) (FlatCall 𝓤 H A mem run))
-    (known-cells : Triple 𝓤 (𝓣 .C #list·cells-of) (CellsOf 𝓤 H A mem run))
-    (known-count : Triple 𝓤 (𝓣 .C #list·count-of) (CountOf 𝓤 H A mem run))
+    (known-cells : Triple 𝓤 (𝓣 .C #table·cells-of) (CellsOf 𝓤 H A mem run))
+    (known-count : Triple 𝓤 (𝓣 .C #table·count-of) (CountOf 𝓤 H A mem run))
     (known-fill : Triple 𝓤 (𝓣 .C #table·fill) (Fill 𝓤 H A mem run)) where
   list-walks : Walks 𝓤 H A list.ended stayed (WpFn 𝓤 H (𝓣 .C) (𝓣 .Λ) code.function) (list.clauses 𝓤 H A mem run)
   list-walks =
@@ -271,6 +271,6 @@ list-spec 𝓤 H 𝓜 𝓖 𝓡 =
     (tables 𝓤 H 𝓜 𝓡 code.env .C) (tables 𝓤 H 𝓜 𝓡 code.env .Λ) #list·list code.function (code.unfolded 𝓤 H 𝓜 𝓡)
     (list-meets 𝓤 H (𝓖 .A) (givenOf 𝓤 H 𝓜 𝓖) (𝓜 .mem) (𝓡 .run) (tablesOf 𝓤 H 𝓜 (tables 𝓤 H 𝓜 𝓡 code.env))
     (flat-known 𝓤 H 𝓜 𝓖 𝓡 code.env code.calls-list·flat)
-    (cells-known 𝓤 H 𝓜 𝓖 𝓡 code.env code.calls-list·cells-of)
-    (count-known 𝓤 H 𝓜 𝓖 𝓡 code.env code.calls-list·count-of)
+    (cells-known 𝓤 H 𝓜 𝓖 𝓡 code.env code.calls-table·cells-of)
+    (count-known 𝓤 H 𝓜 𝓖 𝓡 code.env code.calls-table·count-of)
     (fill-known 𝓤 H 𝓜 𝓖 𝓡 code.env code.calls-table·fill))

@@ -48,20 +48,21 @@ use Rattle.table.proofs.Locals.{localAt, copied, release}
 use Rattle.table.proofs.fill.Symbol.{name as #table·fill}
 use Rattle.run.specs.declared.Run.{Run}
 use Rattle.run.specs.declared.Step.{Step}
-use Rattle.run.specs.Running.{takenOf, countIn, cellsIn}
+use Rattle.table.specs.Table.{countIn, cellsIn}
+use Rattle.run.specs.Running.{takenOf}
 use Rattle.run.proofs.column.Proof.Calling.{FlatCall, flat-known, Left, calls-flat}
 use Rattle.run.proofs.Rows.{column-fillable, column-filled}
 use Rattle.run.proofs.Values.{runVal, stepVal, step-is, run-is, handed-is, run-typed, step-typed, handed-typed}
-use Rattle.run.proofs.Calls.{TakenCells, CellsOf, CountOf, taken-known, cells-known, count-known}
-use Rattle.run.proofs.Calls.{calls-taken, calls-cells, calls-count}
+use Rattle.table.proofs.Calls.{CellsOf, CountOf, cells-known, count-known, calls-cells, calls-count}
+use Rattle.run.proofs.Calls.{TakenCells, taken-known, calls-taken}
 use Rattle.run.proofs.Run as N
 use Rattle.run.proofs.Run.Laws as N′
 use Rattle.run.proofs.Step as U
 use Rattle.run.proofs.Step.Laws as U′
 use Rattle.run.proofs.column_flat.Symbol.{name as #run·column-flat}
 use Rattle.run.proofs.taken_cells.Symbol.{name as #run·taken-cells}
-use Rattle.run.proofs.cells_of.Symbol.{name as #run·cells-of}
-use Rattle.run.proofs.count_of.Symbol.{name as #run·count-of}
+use Rattle.table.proofs.cells_of.Symbol.{name as #table·cells-of}
+use Rattle.table.proofs.count_of.Symbol.{name as #table·count-of}
 use Rattle.run.proofs.column.Key.{name as #run·column}
 use Rattle.run.proofs.column as columns
 use Rattle.run.proofs.column.Statement as stated
@@ -155,8 +156,8 @@ module _ {M : Type 1} (𝓤 : URA M) (H : Heap 𝓤) (A : Atoms 𝓤) (W : Given
   module _ (C : Calls 𝓤 H) (Λ : Loops 𝓤 H) (fm : FmC 𝓤 H (W .laws) C)
       (known-flat : Triple 𝓤 (C #run·column-flat) (FlatCall 𝓤 H A mem run))
       (known-taken : Triple 𝓤 (C #run·taken-cells) (TakenCells 𝓤 H A mem run))
-      (known-cells : Triple 𝓤 (C #run·cells-of) (CellsOf 𝓤 H A mem run))
-      (known-count : Triple 𝓤 (C #run·count-of) (CountOf 𝓤 H A mem run))
+      (known-cells : Triple 𝓤 (C #table·cells-of) (CellsOf 𝓤 H A mem run))
+      (known-count : Triple 𝓤 (C #table·count-of) (CountOf 𝓤 H A mem run))
       (known-fill : Triple 𝓤 (C #table·fill) (Fill 𝓤 H A mem run)) where
     walk : ent 𝓤 (onEntry 𝓤 H A columns.signature (κ₀, (κ₁, (κ₂, (κ₃, tt)))) (q₀, (q₁, (q₂, (q₃, tt)))) a vals)
         (WpFn 𝓤 H C Λ code.function (runVal ru ∷ cv ∷ gv ∷ wv ∷ tv ∷ []) Post)
@@ -248,8 +249,8 @@ module _ {M : Type 1} (𝓤 : URA M) (H : Heap 𝓤) (A : Atoms 𝓤) (W : Given
 module _ {M : Type 1} (𝓤 : URA M) (H : Heap 𝓤) (A : Atoms 𝓤) (W : Given 𝓤 H A) (mem : Memory → SProp 𝓤)
     (run : Routine → Fun 𝓤) (𝓣 : Tables 𝓤 H) (known-flat : Triple 𝓤 (𝓣 .C #run·column-flat) (FlatCall 𝓤 H A mem run))
     (known-taken : Triple 𝓤 (𝓣 .C #run·taken-cells) (TakenCells 𝓤 H A mem run))
-    (known-cells : Triple 𝓤 (𝓣 .C #run·cells-of) (CellsOf 𝓤 H A mem run))
-    (known-count : Triple 𝓤 (𝓣 .C #run·count-of) (CountOf 𝓤 H A mem run))
+    (known-cells : Triple 𝓤 (𝓣 .C #table·cells-of) (CellsOf 𝓤 H A mem run))
+    (known-count : Triple 𝓤 (𝓣 .C #table·count-of) (CountOf 𝓤 H A mem run))
     (known-fill : Triple 𝓤 (𝓣 .C #table·fill) (Fill 𝓤 H A mem run)) where
   column-walks : Walks 𝓤 H A columns.ended stayed (WpFn 𝓤 H (𝓣 .C) (𝓣 .Λ) code.function) (columns.clauses 𝓤 H A mem run)
   column-walks =
@@ -296,6 +297,6 @@ column-spec 𝓤 H 𝓜 𝓖 𝓡 =
     (column-meets 𝓤 H (𝓖 .A) (givenOf 𝓤 H 𝓜 𝓖) (𝓜 .mem) (𝓡 .run) (tablesOf 𝓤 H 𝓜 (tables 𝓤 H 𝓜 𝓡 code.env))
     (flat-known 𝓤 H 𝓜 𝓖 𝓡 code.env code.calls-run·column-flat)
     (taken-known 𝓤 H 𝓜 𝓖 𝓡 code.env code.calls-run·taken-cells)
-    (cells-known 𝓤 H 𝓜 𝓖 𝓡 code.env code.calls-run·cells-of)
-    (count-known 𝓤 H 𝓜 𝓖 𝓡 code.env code.calls-run·count-of)
+    (cells-known 𝓤 H 𝓜 𝓖 𝓡 code.env code.calls-table·cells-of)
+    (count-known 𝓤 H 𝓜 𝓖 𝓡 code.env code.calls-table·count-of)
     (fill-known 𝓤 H 𝓜 𝓖 𝓡 code.env code.calls-table·fill))

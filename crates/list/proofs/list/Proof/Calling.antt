@@ -42,9 +42,9 @@ use denote.Triple.Spec.{tripleOf}
 use denote.Triple.Table.{cited}
 use denote.Triple.Walked.{says}
 use Rattle.table.proofs.Again.{LentMut, lends-again, comes-back}
-use Rattle.list.specs.declared.Listed.{Listed}
+use Rattle.record.specs.declared.Handed.{Handed}
 use Rattle.list.specs.Listing.{Flat}
-use Rattle.list.proofs.Listed as S
+use Rattle.record.proofs.Handed as S
 use Rattle.list.proofs.flat as flat
 use Rattle.list.proofs.flat.Symbol as flat-def
 use Rattle.list.proofs.flat.Symbol.{name as #list·flat}
@@ -61,7 +61,7 @@ flat-known 𝓤 H 𝓜 𝓖 𝓡 env e =
     cited 𝓤 H (FlatCall 𝓤 H (𝓖 .A) (𝓜 .mem) (𝓡 .run)) 𝓜 𝓡 env #list·flat flat-def.routine e
     (flat-thm.met 𝓤 H 𝓜 𝓖 𝓡)
 
-abbrev pub Left : ℕ → List ℤ → ℕ → List ℕ → ℕ → Listed → List ℕ → Type 0
+abbrev pub Left : ℕ → List ℤ → ℕ → List ℕ → ℕ → Handed → List ℕ → Type 0
 Left rows heights threshold ys room r zs =
     (length zs ≡ length ys) × Flat rows heights threshold (length ys) room zs r
 
@@ -122,10 +122,10 @@ module _ {M : Type 1} (𝓤 : URA M) (H : Heap 𝓤) (A : Atoms 𝓤) (W : Given
       move ! (1 ∷ 0 ∷ []) $ join ! $ frame ! $ done !
 
   -- what it ensures, at the last list of the work area
-  abbrev Said : GName → Listed → List ℕ → SProp 𝓤
+  abbrev Said : GName → Handed → List ℕ → SProp 𝓤
   Said δ r zs = sep 𝓤 (sem 𝓤 H A (finally u8 δ zs)) (fact 𝓤 (Left rows (h .now) threshold ys room r zs))
 
-  flat-said : (ν : ℕ) (δ : GName) (r : Listed)
+  flat-said : (ν : ℕ) (δ : GName) (r : Handed)
       → ent 𝓤 (ensured 𝓤 H A flat.ended (flat.clauses 𝓤 H A mem run) (flat-lfts ν) (flat-args δ) tt r) (ex 𝓤 (Said δ r))
   flat-said ν δ r =
       qed W (some (λ (ws : Lasts flat.ended (flat-lfts ν) (flat-args δ)).
@@ -143,7 +143,7 @@ module _ {M : Type 1} (𝓤 : URA M) (H : Heap 𝓤) (A : Atoms 𝓤) (W : Given
         → (os : (ν : ℕ) (δ : GName) → Opds K W (raw (FlatCall 𝓤 H A mem run .pre (to-flat ν δ)) ∷ ‵ Hts
         ∷ ‵ (LentMut u8 κ′ (ν ∷ []) q′ γ b o (length ys) δ ys) ∷ Γ) E xs
         (vint w32 rows ∷ hv ∷ vint w32 threshold ∷ wv ∷ vint w64 room ∷ []))
-        → ((r : Listed) (v : Val) → Is S.the-row r (v ∷ []) → (zs : List ℕ) → Left rows (h .now) threshold ys room r zs
+        → ((r : Handed) (v : Val) → Is S.the-row r (v ∷ []) → (zs : List ℕ) → Left rows (h .now) threshold ys room r zs
         → Seq K W (‵ Hts ∷ ‵ (flft κ q) ∷ ‵ (Work zs) ∷ ‵ (flft κ′ q′) ∷ Γ) (lands C Λ E d v rest p))
         → Seq K W (‵ Hts ∷ ‵ (flft κ q) ∷ ‵ (Work ys) ∷ ‵ (flft κ′ q′) ∷ Γ)
         (runs C Λ E (seq (call #list·flat xs d) rest) p)
@@ -157,7 +157,7 @@ module _ {M : Type 1} (𝓤 : URA M) (H : Heap 𝓤) (A : Atoms 𝓤) (W : Given
         move k (5 ∷ 2 ∷ 3 ∷ 0 ∷ 4 ∷ []) $ group k 4 $
         use1 W (raw (FlatCall 𝓤 H A mem run .pre (to-flat ν δ))) (goes-flat ν δ rows-fits threshold-fits room-fits) $
         calls-at k fm (FlatCall 𝓤 H A mem run) known (to-flat ν δ) (os ν δ) (λ v.
-        use1 W (later (some (λ (r : Listed).
+        use1 W (later (some (λ (r : Handed).
         ((‵ (flft κ q) ⊛ ‵ (flft (ν ∷ []) fullShare) ⊛ ‵ ftrue) ⊛ ‵ (S.the-row .own r (v ∷ [])))
         ⊛ raw (ensured 𝓤 H A flat.ended (flat.clauses 𝓤 H A mem run) (flat-lfts ν) (flat-args δ) tt r)))) (id⊢ 𝓤 _) $
         await k tt $ pick k (λ r. split k $ move k (1 ∷ []) $

@@ -32,19 +32,19 @@ use denote.Triple.Statement.{Contract, Triple}
 use denote.Triple.Clauses.{ensured, lasts}
 use denote.Triple.Spec.{tripleOf}
 use denote.Triple.Table.{cited}
+use Rattle.record.specs.declared.Handed.{Handed}
+use Rattle.record.proofs.Handed as S
+use Rattle.record.proofs.Handed.Laws as S′
+use Rattle.table.specs.Table.{countIn, cellsIn}
 use Rattle.table.proofs.Locals.{calls-number}
-use Rattle.list.specs.declared.Listed.{Listed}
-use Rattle.list.specs.Listing.{countIn, cellsIn}
-use Rattle.list.proofs.Listed as S
-use Rattle.list.proofs.Listed.Laws as S′
-use Rattle.list.proofs.cells_of as cells-of
-use Rattle.list.proofs.cells_of.Symbol as cells-of-def
-use Rattle.list.proofs.cells_of.Symbol.{name as #list·cells-of}
-use Rattle.list.proofs.cells_of.Met as cells-of-thm
-use Rattle.list.proofs.count_of as count-of
-use Rattle.list.proofs.count_of.Symbol as count-of-def
-use Rattle.list.proofs.count_of.Symbol.{name as #list·count-of}
-use Rattle.list.proofs.count_of.Met as count-of-thm
+use Rattle.table.proofs.cells_of as cells-of
+use Rattle.table.proofs.cells_of.Symbol as cells-of-def
+use Rattle.table.proofs.cells_of.Symbol.{name as #table·cells-of}
+use Rattle.table.proofs.cells_of.Met as cells-of-thm
+use Rattle.table.proofs.count_of as count-of
+use Rattle.table.proofs.count_of.Symbol as count-of-def
+use Rattle.table.proofs.count_of.Symbol.{name as #table·count-of}
+use Rattle.table.proofs.count_of.Met as count-of-thm
 
 module _ {M : Type 1} (𝓤 : URA M) (H : Heap 𝓤) (A : Atoms 𝓤) (mem : Memory → SProp 𝓤) (run : Routine → Fun 𝓤) where
   abbrev pub CellsOf : Contract 𝓤
@@ -54,21 +54,21 @@ module _ {M : Type 1} (𝓤 : URA M) (H : Heap 𝓤) (A : Atoms 𝓤) (mem : Mem
   CountOf = tripleOf 𝓤 H A count-of.signature (count-of.spec 𝓤 H A mem run)
 
 pub cells-known : {M : Type 1} (𝓤 : URA M) (H : Heap 𝓤) (𝓜 : Model 𝓤 H) (𝓖 : GhostRules 𝓤 H) (𝓡 : Running 𝓤 H 𝓜)
-    (env : Routines) → env #list·cells-of ≡ cells-of-def.routine
-    → Triple 𝓤 (tables 𝓤 H 𝓜 𝓡 env .C #list·cells-of) (CellsOf 𝓤 H (𝓖 .A) (𝓜 .mem) (𝓡 .run))
+    (env : Routines) → env #table·cells-of ≡ cells-of-def.routine
+    → Triple 𝓤 (tables 𝓤 H 𝓜 𝓡 env .C #table·cells-of) (CellsOf 𝓤 H (𝓖 .A) (𝓜 .mem) (𝓡 .run))
 cells-known 𝓤 H 𝓜 𝓖 𝓡 env e =
-    cited 𝓤 H (CellsOf 𝓤 H (𝓖 .A) (𝓜 .mem) (𝓡 .run)) 𝓜 𝓡 env #list·cells-of cells-of-def.routine e
+    cited 𝓤 H (CellsOf 𝓤 H (𝓖 .A) (𝓜 .mem) (𝓡 .run)) 𝓜 𝓡 env #table·cells-of cells-of-def.routine e
     (cells-of-thm.met 𝓤 H 𝓜 𝓖 𝓡)
 
 pub count-known : {M : Type 1} (𝓤 : URA M) (H : Heap 𝓤) (𝓜 : Model 𝓤 H) (𝓖 : GhostRules 𝓤 H) (𝓡 : Running 𝓤 H 𝓜)
-    (env : Routines) → env #list·count-of ≡ count-of-def.routine
-    → Triple 𝓤 (tables 𝓤 H 𝓜 𝓡 env .C #list·count-of) (CountOf 𝓤 H (𝓖 .A) (𝓜 .mem) (𝓡 .run))
+    (env : Routines) → env #table·count-of ≡ count-of-def.routine
+    → Triple 𝓤 (tables 𝓤 H 𝓜 𝓡 env .C #table·count-of) (CountOf 𝓤 H (𝓖 .A) (𝓜 .mem) (𝓡 .run))
 count-known 𝓤 H 𝓜 𝓖 𝓡 env e =
-    cited 𝓤 H (CountOf 𝓤 H (𝓖 .A) (𝓜 .mem) (𝓡 .run)) 𝓜 𝓡 env #list·count-of count-of-def.routine e
+    cited 𝓤 H (CountOf 𝓤 H (𝓖 .A) (𝓜 .mem) (𝓡 .run)) 𝓜 𝓡 env #table·count-of count-of-def.routine e
     (count-of-thm.met 𝓤 H 𝓜 𝓖 𝓡)
 
 module _ {M : Type 1} (𝓤 : URA M) (H : Heap 𝓤) (A : Atoms 𝓤) (W : Given 𝓤 H A) (mem : Memory → SProp 𝓤)
-    (run : Routine → Fun 𝓤) (r : Listed) (u : Val) (is : Is S.the-row r (u ∷ [])) where
+    (run : Routine → Fun 𝓤) (r : Handed) (u : Val) (is : Is S.the-row r (u ∷ [])) where
   -- ---- `cells_of`
   abbrev pub to-cells : ℕ → CellsOf 𝓤 H A mem run .Ghost
   to-cells l = ((tt, tt, tt, (r, (l, tt)), (u ∷ [], (vint w64 l ∷ [], tt))), tt)
@@ -99,20 +99,20 @@ module _ {M : Type 1} (𝓤 : URA M) (H : Heap 𝓤) (A : Atoms 𝓤) (W : Given
 
   module _ {K : Type 0} {Γ : List (Item 𝓤)} {E : Env 𝓤 H} {C : Calls 𝓤 H} {Λ : Loops 𝓤 H} {p : Post 𝓤 H}
       {xs : List Operand} {d : Place} {rest : Body} where
-    pub calls-cells : K → FmC 𝓤 H (W .laws) C → Triple 𝓤 (C #list·cells-of) (CellsOf 𝓤 H A mem run)
+    pub calls-cells : K → FmC 𝓤 H (W .laws) C → Triple 𝓤 (C #table·cells-of) (CellsOf 𝓤 H A mem run)
         → (l : ℕ) → l < 2 ^ 64
         → Opds K W (raw (CellsOf 𝓤 H A mem run .pre (to-cells l)) ∷ Γ) E xs (u ∷ vint w64 l ∷ [])
         → (cellsIn r l < 2 ^ 64 → Seq K W Γ (lands C Λ E d (vint w64 (cellsIn r l)) rest p))
-        → Seq K W Γ (runs C Λ E (seq (call #list·cells-of xs d) rest) p)
+        → Seq K W Γ (runs C Λ E (seq (call #table·cells-of xs d) rest) p)
     calls-cells t fm known l fits os after =
         calls-number t fm (CellsOf 𝓤 H A mem run) known (to-cells l) (cellsIn r l)
         (ensured 𝓤 H A cells-of.ended (cells-of.clauses 𝓤 H A mem run) tt (r, (l, tt)) tt) (goes-cells l fits) (λ v. id⊢ 𝓤 _) (cells-said l) os
         after
 
-    pub calls-count : K → FmC 𝓤 H (W .laws) C → Triple 𝓤 (C #list·count-of) (CountOf 𝓤 H A mem run)
+    pub calls-count : K → FmC 𝓤 H (W .laws) C → Triple 𝓤 (C #table·count-of) (CountOf 𝓤 H A mem run)
         → Opds K W (raw (CountOf 𝓤 H A mem run .pre to-count) ∷ Γ) E xs (u ∷ [])
         → (countIn r < 2 ^ 64 → Seq K W Γ (lands C Λ E d (vint w64 (countIn r)) rest p))
-        → Seq K W Γ (runs C Λ E (seq (call #list·count-of xs d) rest) p)
+        → Seq K W Γ (runs C Λ E (seq (call #table·count-of xs d) rest) p)
     calls-count t fm known os after =
         calls-number t fm (CountOf 𝓤 H A mem run) known to-count (countIn r)
         (ensured 𝓤 H A count-of.ended (count-of.clauses 𝓤 H A mem run) tt (r, tt) tt) goes-count (λ v. id⊢ 𝓤 _) count-said os

@@ -1,0 +1,41 @@
+-- The lent row of records after an answer, filled from what a flat call leaves in the work area.
+--     counted-none       no record of no cell can be read
+--     handed-fillable    what the call leaves may be filled into the row; at a refusal, no record
+--     handed-filled      the row that is filled so is that after the answer
+-- Assumes nothing.
+use mathlib.Core.Path.{_≡_, refl, sym, _∙_, ap, subst}
+use mathlib.Core.List.{List, _++_}
+use Prim.Native.Nat.{ℕ, _≤_}
+use native.Mathlib.Omega.{arith}
+use lib.ListN.{length, drop}
+use Rattle.record.specs.declared.Peak.{Peak}
+use Rattle.record.specs.declared.Handed.{Handed}
+use Rattle.record.specs.declared.Handed.the-variants.{Count, Refused}
+use Rattle.table.specs.Table.{Counted, recordsIn, Fillable, countIn, cellsIn, tableAfter}
+use Rattle.table.proofs.Laws.{filled-start}
+
+pub counted-none : (s : List ℕ) → Counted s 0 0
+counted-none s = record {
+  area = record { few = omega arith; room = omega arith };
+  few = omega arith;
+  cells = λ i l. absurd (omega arith);
+  passes = λ i l. absurd (omega arith);
+}
+
+-- m cells are counted after an answer that hands records out, which stand behind so many cells
+module _ (table : List Peak) (left : List ℕ) {cells m : ℕ} where
+  pub handed-fillable : (a : Handed) → ((n : ℕ) → a ≡ Count n → m ≡ cells)
+      → ((n : ℕ) → a ≡ Count n → Counted left cells n × (n ≤ length table))
+      → Fillable table left (cellsIn a m) (countIn a)
+  handed-fillable (Count n) e h = record {
+    counted = subst (λ (k : ℕ). Counted left k n) (sym (e n refl)) (h n refl .0);
+    room = h n refl .1;
+  }
+  handed-fillable (Refused r) e h = record { counted = counted-none left; room = omega arith }
+
+  pub handed-filled : (a : Handed) {records : List Peak} → ((n : ℕ) → a ≡ Count n → m ≡ cells)
+      → ((n : ℕ) → a ≡ Count n → recordsIn left cells n ≡ records)
+      → recordsIn left (cellsIn a m) (countIn a) ++ drop (countIn a) table ≡ tableAfter a records table
+  handed-filled (Count n) e h =
+      ap (λ (l : List Peak). l ++ drop n table) (ap (λ (k : ℕ). recordsIn left k n) (e n refl) ∙ h n refl)
+  handed-filled (Refused r) e h = filled-start table left 0
