@@ -153,7 +153,8 @@ pub record Readable (f : List ℕ) (heights table u : ℕ) : Type 0 where
   pub table-room : peaksIn f ≤ table
 
 passed :
-    (t : Bool) (r : Refusal) (a : ReadBack) {b c d : ℕ} → cond t (Refused r) a ≡ Run b c d → (t ≡ false) × (a ≡ Run b c d)
+    (t : Bool) (r : Refusal) (a : ReadBack) {b c d : ℕ} → cond t (Refused r) a ≡ Run b c d →
+    (t ≡ false) × (a ≡ Run b c d)
 passed true r a e = let z : _≡_ {A = ℕ} 0 1 = cc in absurd (omega arith)
 passed false r a e = (refl, e)
 

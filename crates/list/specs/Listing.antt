@@ -35,8 +35,8 @@ listAnswer rows cells work room needed =
     -- "peak table too short"; also returns "the number of records needed"
     (cond (ltb room needed) (Refused (Table needed)) (Count needed)))))
 
--- The list of the definition is there for every grid and is one (`list-exists`, `order-unique` of `theorems`). The heights
--- are lent to be read, and the work area's contents are left open (docs/EXCEPTIONS.md).
+-- The list of the definition is there for every grid and is one (`list-exists`, `order-unique` of `theorems`). The
+-- heights are lent to be read, and the work area's contents are left open (docs/EXCEPTIONS.md).
 pub record Lists (rows : ℕ) (heights : List ℤ) (T work : ℕ) (table table′ : List Peak) (answer : Handed) : Type 0 where
   pub list : List Entry
   pub right : ListOf (Plane rows) (levels heights) T list

@@ -41,7 +41,8 @@ handedBytes (Count n) batch table = bytesOf (recordsOf (map recordOf batch)) ++ 
 handedBytes (Refused r) batch table = table
 
 -- `Columns` of `run`; the run record after the call follows from the answer, and the caller keeps it.
-pub record MeterColumns (rows columns T : ℕ) (column grid grid′ : List ℤ) (work : ℕ) (table table′ : List ℕ) (answer : ℤ) : Type 0 where
+pub record MeterColumns (rows columns T : ℕ) (column grid grid′ : List ℤ) (work : ℕ) (table table′ : List ℕ)
+    (answer : ℤ) : Type 0 where
   pub batch : List Entry
   pub handed : Handed
   pub right : Batch (Plane rows) (stageOf rows columns (heightsWith (openRun rows columns T) column grid))

@@ -1,4 +1,4 @@
-// The cell and record types, their constants and constructors, level and prominence, refusals.
+// The cell and record types, their constants and constructors, level and prominence, answers and refusals.
 ghost use mathlib.Core.Bool.{not};
 ghost use mathlib.Core.Path.{_≡_};
 ghost use lib.IntN.{pos};

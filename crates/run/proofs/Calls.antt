@@ -1,5 +1,5 @@
--- The call of `taken_cells` as one step of a caller's walk: a run record goes in by value, and a number comes out. After
--- `proofs/via` of the kit's example `percent`.
+-- The call of `taken_cells` as one step of a caller's walk: a run record goes in by value, and a number comes out.
+-- After `proofs/via` of the kit's example `percent`.
 --     TakenCells      the contract
 --     taken-known     the table of calls has the function, which meets it
 --     calls-taken     the caller's context is as it was, and the number returned fits
@@ -25,7 +25,6 @@ use types.Run.{Opds}
 use sound.WpLaws.{FmC}
 use denote.Laws.{Is}
 use denote.Steps.{owned, nothing}
-use denote.Enum.Laws as EL
 use denote.Struct.Laws as LL
 use denote.Triple.Statement.{Contract, Triple}
 use denote.Triple.Clauses.{ensured, lasts}
@@ -77,5 +76,5 @@ module _ {M : Type 1} (𝓤 : URA M) (H : Heap 𝓤) (A : Atoms 𝓤) (W : Given
         → Seq K W Γ (runs C Λ E (seq (call #run·taken-cells xs d) rest) p)
     calls-taken t fm known os after =
         calls-number t fm (TakenCells 𝓤 H A mem run) known to-taken (takenOf ru)
-        (ensured 𝓤 H A taken-cells.ended (taken-cells.clauses 𝓤 H A mem run) tt (ru, tt) tt) goes-taken (λ v. id⊢ 𝓤 _) taken-said os
-        after
+        (ensured 𝓤 H A taken-cells.ended (taken-cells.clauses 𝓤 H A mem run) tt (ru, tt) tt)
+        goes-taken (λ v. id⊢ 𝓤 _) taken-said os after

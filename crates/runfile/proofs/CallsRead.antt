@@ -80,8 +80,8 @@ module _ {M : Type 1} (𝓤 : URA M) (H : Heap 𝓤) (A : Atoms 𝓤) (W : Given
         → Seq K W Γ (runs C Λ E (seq (call #layout·cells-to-take xs d) rest) p)
     calls-cells t fm known os after =
         calls-number t fm (CellsToTake 𝓤 H A mem run) known to-cells (cellsToTake r)
-        (ensured 𝓤 H A cells-of.ended (cells-of.clauses 𝓤 H A mem run) tt (r, tt) tt) goes-cells (λ v. id⊢ 𝓤 _) cells-said os
-        after
+        (ensured 𝓤 H A cells-of.ended (cells-of.clauses 𝓤 H A mem run) tt (r, tt) tt)
+        goes-cells (λ v. id⊢ 𝓤 _) cells-said os after
 
     pub calls-records : K → FmC 𝓤 H (W .laws) C → Triple 𝓤 (C #layout·records-to-take) (RecordsToTake 𝓤 H A mem run)
         → Opds K W (raw (RecordsToTake 𝓤 H A mem run .pre to-records) ∷ Γ) E xs (u ∷ [])
@@ -89,5 +89,5 @@ module _ {M : Type 1} (𝓤 : URA M) (H : Heap 𝓤) (A : Atoms 𝓤) (W : Given
         → Seq K W Γ (runs C Λ E (seq (call #layout·records-to-take xs d) rest) p)
     calls-records t fm known os after =
         calls-number t fm (RecordsToTake 𝓤 H A mem run) known to-records (recordsToTake r)
-        (ensured 𝓤 H A count-of.ended (count-of.clauses 𝓤 H A mem run) tt (r, tt) tt) goes-records (λ v. id⊢ 𝓤 _) records-said os
-        after
+        (ensured 𝓤 H A count-of.ended (count-of.clauses 𝓤 H A mem run) tt (r, tt) tt)
+        goes-records (λ v. id⊢ 𝓤 _) records-said os after

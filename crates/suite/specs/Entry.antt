@@ -46,8 +46,8 @@ abbrev pub suiteTable : ℤ → List Entry → List ℕ → List ℕ
 suiteTable (pos n) list table = bytesOf (recordsOf (map recordOf list)) ++ drop (16 * n) table
 suiteTable (negsuc n) list table = table
 
--- The list of the definition is there for every grid and is one (`list-exists`, `order-unique` of `theorems`). The heights
--- are lent to be read, and the work area's contents are left open (docs/EXCEPTIONS.md).
+-- The list of the definition is there for every grid and is one (`list-exists`, `order-unique` of `theorems`). The
+-- heights are lent to be read, and the work area's contents are left open (docs/EXCEPTIONS.md).
 pub record SuiteLists (rows : ℕ) (heights : List ℕ) (T work : ℕ) (table table′ : List ℕ) (answer : ℤ) : Type 0 where
   pub list : List Entry
   pub right : ListOf (Plane rows) (levels (heightsOf heights (length heights / 4))) T list

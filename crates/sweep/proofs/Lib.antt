@@ -3,9 +3,12 @@ pub mod Tracking
 pub mod Joining
 pub mod Steps
 pub mod Neighbours
+pub mod Placing
 pub mod Bits
 pub mod Work
 pub mod Looking
+pub mod Turning
 pub mod Telling
 pub mod Taking
 pub mod Sweeping
+pub mod Clearing

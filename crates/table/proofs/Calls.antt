@@ -106,8 +106,8 @@ module _ {M : Type 1} (𝓤 : URA M) (H : Heap 𝓤) (A : Atoms 𝓤) (W : Given
         → Seq K W Γ (runs C Λ E (seq (call #table·cells-of xs d) rest) p)
     calls-cells t fm known l fits os after =
         calls-number t fm (CellsOf 𝓤 H A mem run) known (to-cells l) (cellsIn r l)
-        (ensured 𝓤 H A cells-of.ended (cells-of.clauses 𝓤 H A mem run) tt (r, (l, tt)) tt) (goes-cells l fits) (λ v. id⊢ 𝓤 _) (cells-said l) os
-        after
+        (ensured 𝓤 H A cells-of.ended (cells-of.clauses 𝓤 H A mem run) tt (r, (l, tt)) tt)
+        (goes-cells l fits) (λ v. id⊢ 𝓤 _) (cells-said l) os after
 
     pub calls-count : K → FmC 𝓤 H (W .laws) C → Triple 𝓤 (C #table·count-of) (CountOf 𝓤 H A mem run)
         → Opds K W (raw (CountOf 𝓤 H A mem run .pre to-count) ∷ Γ) E xs (u ∷ [])
@@ -115,5 +115,5 @@ module _ {M : Type 1} (𝓤 : URA M) (H : Heap 𝓤) (A : Atoms 𝓤) (W : Given
         → Seq K W Γ (runs C Λ E (seq (call #table·count-of xs d) rest) p)
     calls-count t fm known os after =
         calls-number t fm (CountOf 𝓤 H A mem run) known to-count (countIn r)
-        (ensured 𝓤 H A count-of.ended (count-of.clauses 𝓤 H A mem run) tt (r, tt) tt) goes-count (λ v. id⊢ 𝓤 _) count-said os
-        after
+        (ensured 𝓤 H A count-of.ended (count-of.clauses 𝓤 H A mem run) tt (r, tt) tt)
+        goes-count (λ v. id⊢ 𝓤 _) count-said os after

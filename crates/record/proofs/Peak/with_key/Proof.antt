@@ -11,8 +11,8 @@ use Rattle.record.proofs.Peak.with_key.Tie as tie
 returns : tie.Need-returns
 returns c =
     let args = c .args in
-    ap₂ (λ (height key : ℤ). withKey (args .cell) height key (args .pass)) (toZ-ofZ w32 (args .height) (c .fits .height))
-    (toZ-ofZ w32 (args .key) (c .fits .key))
+    ap₂ (λ (height key : ℤ). withKey (args .cell) height key (args .pass))
+    (toZ-ofZ w32 (args .height) (c .fits .height)) (toZ-ofZ w32 (args .key) (c .fits .key))
 
 pub with-key-spec : {M : Type 1} → statement M
 with-key-spec = tie.close (tie.spec returns)
