@@ -1,5 +1,6 @@
 pub mod Priority
 pub mod Tracking
+pub mod Noting
 pub mod Joining
 pub mod Steps
 pub mod Neighbours
