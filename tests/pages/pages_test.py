@@ -21,12 +21,22 @@ assert bytes.fromhex("".join(line for _, line in dump)) == (ROOT / "crates/peaks
 shown = "".join(f"    {line}\n" for line in page("crates/peaks/stdout").splitlines())
 assert shown in page("README.md")
 
-# Each crate has its row, and each row its crate.
-crates = {line.split(":")[0] for line in page("crates.txt").splitlines() if line.strip()}
-assert crates == set(re.findall(r"^\| `(\w+)` \|", page("README.md"), re.M)) - {"make"}
+# crates.txt reads from the bottom up, but for the crates of the kit; each crate has its row, and each row its crate.
+crates = []
+for line in page("crates.txt").splitlines():
+    name, needs = line.split("#")[0].split(":")
+    assert set(needs.split()) <= {*crates, "io", "libc"}, line
+    crates.append(name)
+assert crates == re.findall(r"^\| `(\w+)` \|", page("README.md"), re.M), crates
 
-# Each must-fail edit that docs/PROMISES.md names is there.
-edits = {edit.stem for edit in ROOT.glob("crates/*/must-fail/*.edit")}
+# What a reader must believe of the definitions is short.
+assert sum(len(page(specs).splitlines()) for specs in ROOT.glob("crates/relief/specs/*.antt")) <= 250
+
+# Each must-fail edit quotes where it is refused, and each that docs/PROMISES.md names is there.
+edits = set()
+for edit in ROOT.glob("crates/*/must-fail/*.edit"):
+    assert re.search(r"^# First error, proofs/\S+: `", edit.read_text(), re.M), edit
+    edits.add(edit.stem)
 named = set(re.findall(r"`(\w+)\.edit`", page("docs/PROMISES.md")))
 assert named and named <= edits, named - edits
 
