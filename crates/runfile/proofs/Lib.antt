@@ -1,2 +1,2 @@
-mod CallsRead
+mod Slices
 pub mod Claims

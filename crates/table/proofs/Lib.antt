@@ -1,5 +1,6 @@
 pub mod Laws
 pub mod Locals
+pub mod Turning
 pub mod Again
 pub mod Filling
 pub mod Handing

@@ -1,6 +1,7 @@
 -- The calls of `cells_to_take` and `records_to_take` as one step each of a caller's walk: an answer goes in by value,
 -- and a number comes out. After `proofs/via` of the kit's example `percent`.
 --     CellsToTake, RecordsToTake      the contracts
+--     cells-known, records-known      the table of calls has the functions, which meet them
 --     calls-cells, calls-records      the caller's context is as it was, and the number returned fits
 -- `is` says that u is the machine's value of the answer. The operands are read with one entry in front.
 -- Assumes `Given`.
@@ -12,10 +13,12 @@ use mir.Syntax.{Opd as Operand, Place, Body, w64, seq, call}
 use mir.Val.{Val, vint}
 use base.Logic.{SProp, ent, emp, snd∗, exE, id⊢}
 use prog.Memory.{Memory}
-use prog.Routine.{Routine}
+use prog.Model.{Model}
+use prog.Routine.{Routine, Env as Routines}
 use prog.Wp.{Heap, Env, Calls, Loops}
 use ghost.Atoms.{Atoms, sem}
 use contract.Monad.{Fun, fact}
+use contract.Running.{Running, GhostRules, tables}
 use types.Kit.{Given, Item, raw, Post, Seq, runs, lands, _$_, _∵_, !, qed}
 use types.Kit.{join, fjoin, frame, done}
 use types.Run.{Opds}
@@ -26,15 +29,20 @@ use denote.Enum.Laws as EL
 use denote.Triple.Statement.{Contract, Triple}
 use denote.Triple.Clauses.{ensured, lasts}
 use denote.Triple.Spec.{tripleOf}
+use denote.Triple.Table.{cited}
 use Rattle.layout.specs.declared.ReadBack.{ReadBack}
 use Rattle.layout.specs.Steps.{cellsToTake, recordsToTake}
 use Rattle.table.proofs.Locals.{calls-number}
 use Rattle.layout.proofs.ReadBack as S
 use Rattle.layout.proofs.ReadBack.Laws as S′
 use Rattle.layout.proofs.cells_to_take as cells-of
+use Rattle.layout.proofs.cells_to_take.Symbol as cells-of-def
 use Rattle.layout.proofs.cells_to_take.Symbol.{name as #layout·cells-to-take}
+use Rattle.layout.proofs.cells_to_take.Met as cells-of-thm
 use Rattle.layout.proofs.records_to_take as count-of
+use Rattle.layout.proofs.records_to_take.Symbol as count-of-def
 use Rattle.layout.proofs.records_to_take.Symbol.{name as #layout·records-to-take}
+use Rattle.layout.proofs.records_to_take.Met as count-of-thm
 
 module _ {M : Type 1} (𝓤 : URA M) (H : Heap 𝓤) (A : Atoms 𝓤) (mem : Memory → SProp 𝓤) (run : Routine → Fun 𝓤) where
   abbrev pub CellsToTake : Contract 𝓤
@@ -42,6 +50,20 @@ module _ {M : Type 1} (𝓤 : URA M) (H : Heap 𝓤) (A : Atoms 𝓤) (mem : Mem
 
   abbrev pub RecordsToTake : Contract 𝓤
   RecordsToTake = tripleOf 𝓤 H A count-of.signature (count-of.spec 𝓤 H A mem run)
+
+module _ {M : Type 1} (𝓤 : URA M) (H : Heap 𝓤) (𝓜 : Model 𝓤 H) (𝓖 : GhostRules 𝓤 H) (𝓡 : Running 𝓤 H 𝓜)
+    (env : Routines) where
+  pub cells-known : env #layout·cells-to-take ≡ cells-of-def.routine
+      → Triple 𝓤 (tables 𝓤 H 𝓜 𝓡 env .C #layout·cells-to-take) (CellsToTake 𝓤 H (𝓖 .A) (𝓜 .mem) (𝓡 .run))
+  cells-known e =
+      cited 𝓤 H (CellsToTake 𝓤 H (𝓖 .A) (𝓜 .mem) (𝓡 .run)) 𝓜 𝓡 env #layout·cells-to-take cells-of-def.routine e
+      (cells-of-thm.met 𝓤 H 𝓜 𝓖 𝓡)
+
+  pub records-known : env #layout·records-to-take ≡ count-of-def.routine
+      → Triple 𝓤 (tables 𝓤 H 𝓜 𝓡 env .C #layout·records-to-take) (RecordsToTake 𝓤 H (𝓖 .A) (𝓜 .mem) (𝓡 .run))
+  records-known e =
+      cited 𝓤 H (RecordsToTake 𝓤 H (𝓖 .A) (𝓜 .mem) (𝓡 .run)) 𝓜 𝓡 env #layout·records-to-take count-of-def.routine e
+      (count-of-thm.met 𝓤 H 𝓜 𝓖 𝓡)
 
 module _ {M : Type 1} (𝓤 : URA M) (H : Heap 𝓤) (A : Atoms 𝓤) (W : Given 𝓤 H A) (mem : Memory → SProp 𝓤)
     (run : Routine → Fun 𝓤) (r : ReadBack) (u : Val) (is : Is S.the-row r (u ∷ [])) where
@@ -80,8 +102,8 @@ module _ {M : Type 1} (𝓤 : URA M) (H : Heap 𝓤) (A : Atoms 𝓤) (W : Given
         → Seq K W Γ (runs C Λ E (seq (call #layout·cells-to-take xs d) rest) p)
     calls-cells t fm known os after =
         calls-number t fm (CellsToTake 𝓤 H A mem run) known to-cells (cellsToTake r)
-        (ensured 𝓤 H A cells-of.ended (cells-of.clauses 𝓤 H A mem run) tt (r, tt) tt)
-        goes-cells (λ v. id⊢ 𝓤 _) cells-said os after
+        (ensured 𝓤 H A cells-of.ended (cells-of.clauses 𝓤 H A mem run) tt (r, tt) tt) goes-cells
+        (λ v. id⊢ 𝓤 _) cells-said os after
 
     pub calls-records : K → FmC 𝓤 H (W .laws) C → Triple 𝓤 (C #layout·records-to-take) (RecordsToTake 𝓤 H A mem run)
         → Opds K W (raw (RecordsToTake 𝓤 H A mem run .pre to-records) ∷ Γ) E xs (u ∷ [])
@@ -89,5 +111,5 @@ module _ {M : Type 1} (𝓤 : URA M) (H : Heap 𝓤) (A : Atoms 𝓤) (W : Given
         → Seq K W Γ (runs C Λ E (seq (call #layout·records-to-take xs d) rest) p)
     calls-records t fm known os after =
         calls-number t fm (RecordsToTake 𝓤 H A mem run) known to-records (recordsToTake r)
-        (ensured 𝓤 H A count-of.ended (count-of.clauses 𝓤 H A mem run) tt (r, tt) tt)
-        goes-records (λ v. id⊢ 𝓤 _) records-said os after
+        (ensured 𝓤 H A count-of.ended (count-of.clauses 𝓤 H A mem run) tt (r, tt) tt) goes-records
+        (λ v. id⊢ 𝓤 _) records-said os after
