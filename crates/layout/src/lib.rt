@@ -45,13 +45,6 @@ pub fn signed(bits: u32) -> i32
     record::height(std::num::wrapping_add_u32(bits, HALF))
 }
 
-fn narrow(v: usize) -> u32
-    requires { ⌜ v < 4294967296 ⌝ }
-    ensures { λ r. ⌜ r ≡ v ⌝ }
-{
-    v as u32
-}
-
 // The cells of a grid. The product of two 32-bit numbers is made in 64 bits.
 pub fn cells_of(rows: u32, columns: u32) -> usize
     ensures { λ r. ⌜ r ≡ rows * columns ⌝ }
@@ -223,16 +216,16 @@ fn plan(rows: u32, cells: usize, n: usize, unsound: usize, room: usize) -> Writt
     }
     if unsound < n {
         return Written::Refused(Refusal::Unsound {
-            index: narrow(unsound),
+            index: words::narrow(unsound),
         });
     }
     let total = 24 + 4 * cells + 16 * n;
     if room < total {
         return Written::Refused(Refusal::Room {
-            needed: narrow(total),
+            needed: words::narrow(total),
         });
     }
-    Written::Bytes(narrow(total))
+    Written::Bytes(words::narrow(total))
 }
 
 // Puts a number at the i-th place of four bytes.
@@ -251,11 +244,11 @@ fn put_header(room: &mut [u8], rows: u32, cells: usize, n: usize)
     let offset = 24 + 4 * cells;
     let total = offset + 16 * n;
     put_word(room, 0, rows);
-    put_word(room, 1, narrow(columns));
-    put_word(room, 2, narrow(n));
+    put_word(room, 1, words::narrow(columns));
+    put_word(room, 2, words::narrow(n));
     put_word(room, 3, 24);
-    put_word(room, 4, narrow(offset));
-    put_word(room, 5, narrow(total));
+    put_word(room, 4, words::narrow(offset));
+    put_word(room, 5, words::narrow(total));
 }
 
 fn put_heights(room: &mut [u8], heights: &[i32])
@@ -355,12 +348,12 @@ fn judge(file: &[u8], heights: usize, table: usize) -> ReadBack
     let unsound = first_unsound_in(file, cells, n);
     if unsound < n {
         return ReadBack::Refused(Refusal::Unsound {
-            index: narrow(unsound),
+            index: words::narrow(unsound),
         });
     }
     if heights < cells {
         return ReadBack::Refused(Refusal::Room {
-            needed: narrow(cells),
+            needed: words::narrow(cells),
         });
     }
     if table < n {

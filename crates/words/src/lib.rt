@@ -39,12 +39,12 @@ pub fn index(v: u32) -> usize
     v as usize
 }
 
-// A cell as a number of the work area.
-pub fn narrow(c: usize) -> u32
-    requires { ⌜ c < 1048576 ⌝ }
-    ensures { λ r. ⌜ r ≡ c ⌝ }
+// A number of 32 bits that was an index or a length.
+pub fn narrow(v: usize) -> u32
+    requires { ⌜ v < 4294967296 ⌝ }
+    ensures { λ r. ⌜ r ≡ v ⌝ }
 {
-    c as u32
+    v as u32
 }
 
 // The cell in a number that may have marks.
