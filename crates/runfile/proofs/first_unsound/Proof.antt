@@ -24,12 +24,12 @@ use denote.Triple.Spec.{Meets, tripleOf}
 use denote.Triple.Table.{entered, cited}
 use denote.Triple.Walked.{goes-none-slice, Walks, walked, walk-meets}
 use denote.Exit.{yes as kept}
-use Rattle.layout.proofs.scan.Symbol as scan-def
-use Rattle.layout.proofs.scan.Symbol.{name as #layout·scan}
-use Rattle.layout.proofs.scan.Met as scan-thm
-use Rattle.layout.proofs.scanned.Symbol as scanned-def
-use Rattle.layout.proofs.scanned.Symbol.{name as #layout·scanned}
-use Rattle.layout.proofs.scanned.Met as scanned-thm
+use Rattle.layout.proofs.soundness.scan.Symbol as scan-def
+use Rattle.layout.proofs.soundness.scan.Symbol.{name as #layout·scan}
+use Rattle.layout.proofs.soundness.scan.Met as scan-thm
+use Rattle.layout.proofs.soundness.scanned.Symbol as scanned-def
+use Rattle.layout.proofs.soundness.scanned.Symbol.{name as #layout·scanned}
+use Rattle.layout.proofs.soundness.scanned.Met as scanned-thm
 use Rattle.runfile.proofs.first_unsound.Proof.Ending.{R, stayed}
 use Rattle.runfile.proofs.first_unsound.Proof.Scanning.{ScanC, ScannedC}
 use Rattle.runfile.proofs.first_unsound.Proof.Walk.{walk}

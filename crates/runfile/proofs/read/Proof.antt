@@ -54,9 +54,9 @@ use Rattle.layout.specs.declared.ReadBack.{ReadBack}
 use Rattle.layout.specs.Steps.{cellsToTake, recordsToTake}
 use Rattle.layout.proofs.ReadBack as S
 use Rattle.layout.proofs.ReadBack.Laws as S′
-use Rattle.layout.proofs.take_grid.Symbol.{name as #layout·take-grid}
-use Rattle.layout.proofs.cells_to_take.Symbol.{name as #layout·cells-to-take}
-use Rattle.layout.proofs.records_to_take.Symbol.{name as #layout·records-to-take}
+use Rattle.layout.proofs.reader.take_grid.Symbol.{name as #layout·take-grid}
+use Rattle.layout.proofs.reader.cells_to_take.Symbol.{name as #layout·cells-to-take}
+use Rattle.layout.proofs.reader.records_to_take.Symbol.{name as #layout·records-to-take}
 use Rattle.runfile.proofs.take_records.Symbol.{name as #runfile·take-records}
 use Rattle.runfile.proofs.Slices.{valueOf, OwnShr}
 use Rattle.runfile.proofs.read.Proof.Numbers.{

@@ -27,9 +27,9 @@ use denote.Triple.Table.{entered, cited}
 use denote.Triple.Walked.{needs, goes-none, goes-slice, goes-none-slice, Walks, walked, walk-meets}
 use denote.Exit.{yes as kept}
 use Rattle.layout.specs.Steps.{Takable}
-use Rattle.layout.proofs.record_in.Symbol as record-in-def
-use Rattle.layout.proofs.record_in.Symbol.{name as #layout·record-in}
-use Rattle.layout.proofs.record_in.Met as record-in-thm
+use Rattle.layout.proofs.records.record_in.Symbol as record-in-def
+use Rattle.layout.proofs.records.record_in.Symbol.{name as #layout·record-in}
+use Rattle.layout.proofs.records.record_in.Met as record-in-thm
 use Rattle.runfile.proofs.take_records.Proof.Ending.{R, stayed}
 use Rattle.runfile.proofs.take_records.Proof.Recording.{RecordIn}
 use Rattle.runfile.proofs.take_records.Proof.Walk.{walk}

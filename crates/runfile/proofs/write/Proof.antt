@@ -59,8 +59,8 @@ use Rattle.layout.proofs.Laying.{grid-puttable, grid-written}
 use Rattle.layout.proofs.Sounding.{first-few}
 use Rattle.layout.proofs.Written as S
 use Rattle.layout.proofs.Written.Laws as S′
-use Rattle.layout.proofs.put_grid.Symbol.{name as #layout·put-grid}
-use Rattle.layout.proofs.records_to_put.Symbol.{name as #layout·records-to-put}
+use Rattle.layout.proofs.writer.put_grid.Symbol.{name as #layout·put-grid}
+use Rattle.layout.proofs.writer.records_to_put.Symbol.{name as #layout·records-to-put}
 use Rattle.runfile.proofs.first_unsound.Symbol.{name as #runfile·first-unsound}
 use Rattle.runfile.proofs.put_records.Symbol.{name as #runfile·put-records}
 use Rattle.runfile.proofs.Slices.{valueOf, sliceAt, OwnShr}

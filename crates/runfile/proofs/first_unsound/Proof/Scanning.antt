@@ -45,10 +45,10 @@ use Rattle.record.proofs.Peak as T
 use Rattle.record.proofs.Peak.Laws as T′
 use Rattle.layout.specs.Steps.{Scans, scannedOf}
 use Rattle.table.proofs.Locals.{lands-number, calls-number}
-use Rattle.layout.proofs.scan as scan
-use Rattle.layout.proofs.scan.Symbol.{name as #layout·scan}
-use Rattle.layout.proofs.scanned as scanned
-use Rattle.layout.proofs.scanned.Symbol.{name as #layout·scanned}
+use Rattle.layout.proofs.soundness.scan as scan
+use Rattle.layout.proofs.soundness.scan.Symbol.{name as #layout·scan}
+use Rattle.layout.proofs.soundness.scanned as scanned
+use Rattle.layout.proofs.soundness.scanned.Symbol.{name as #layout·scanned}
 
 module _ {M : Type 1} (𝓤 : URA M) (H : Heap 𝓤) (A : Atoms 𝓤) (mem : Memory → SProp 𝓤) (run : Routine → Fun 𝓤) where
   abbrev pub ScanC : Contract 𝓤

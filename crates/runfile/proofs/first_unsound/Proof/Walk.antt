@@ -58,8 +58,8 @@ use Rattle.layout.specs.Steps.{scannedOf}
 use Rattle.table.proofs.Locals.{localAt, copied, release}
 use Rattle.table.proofs.Turning.{bytes-fit}
 use Rattle.layout.proofs.Sounding.{scanned-step, scanned-done}
-use Rattle.layout.proofs.scan.Symbol.{name as #layout·scan}
-use Rattle.layout.proofs.scanned.Symbol.{name as #layout·scanned}
+use Rattle.layout.proofs.soundness.scan.Symbol.{name as #layout·scan}
+use Rattle.layout.proofs.soundness.scanned.Symbol.{name as #layout·scanned}
 use Rattle.runfile.proofs.first_unsound as unsound
 use Rattle.runfile.proofs.first_unsound.Proof.Ending.{R, recordsVal, Recs, args, vals, Ended, exits}
 use Rattle.runfile.proofs.first_unsound.Proof.Scanning.{ScanC, ScannedC, heightsVal, Hts, calls-scan}

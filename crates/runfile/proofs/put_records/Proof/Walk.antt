@@ -54,7 +54,7 @@ use Rattle.layout.specs.Steps.{Puttable, laid}
 use Rattle.table.proofs.Locals.{localAt, copied, release}
 use Rattle.table.proofs.Turning.{Upto, Nearer, Nearer-wf}
 use Rattle.layout.proofs.Pasting.{laid-start}
-use Rattle.layout.proofs.put_record.Symbol.{name as #layout·put-record}
+use Rattle.layout.proofs.writer.put_record.Symbol.{name as #layout·put-record}
 use Rattle.runfile.proofs.put_records as put
 use Rattle.runfile.proofs.put_records.Proof.Ending.{R, recordsVal, Recs, args, vals, Ended, exits}
 use Rattle.runfile.proofs.put_records.Proof.Putting.{PutOne, RoomAt, calls-put}

@@ -43,10 +43,10 @@ use denote.Triple.Walked.{says}
 use Rattle.layout.specs.declared.ReadBack.{ReadBack}
 use Rattle.layout.specs.Steps.{GridTaken}
 use Rattle.layout.proofs.ReadBack as S
-use Rattle.layout.proofs.take_grid as grid
-use Rattle.layout.proofs.take_grid.Symbol as grid-def
-use Rattle.layout.proofs.take_grid.Symbol.{name as #layout·take-grid}
-use Rattle.layout.proofs.take_grid.Met as grid-thm
+use Rattle.layout.proofs.reader.take_grid as grid
+use Rattle.layout.proofs.reader.take_grid.Symbol as grid-def
+use Rattle.layout.proofs.reader.take_grid.Symbol.{name as #layout·take-grid}
+use Rattle.layout.proofs.reader.take_grid.Met as grid-thm
 use Rattle.runfile.proofs.Slices.{valueOf, OwnShr, OwnMut, copies, Leaves, calls-leaves}
 
 abbrev pub TakeGrid : {M : Type 1} (𝓤 : URA M) (H : Heap 𝓤) (A : Atoms 𝓤) (mem : Memory → SProp 𝓤)

@@ -35,14 +35,14 @@ use Rattle.layout.specs.Steps.{cellsToTake, recordsToTake}
 use Rattle.table.proofs.Locals.{calls-number}
 use Rattle.layout.proofs.ReadBack as S
 use Rattle.layout.proofs.ReadBack.Laws as S′
-use Rattle.layout.proofs.cells_to_take as cells-of
-use Rattle.layout.proofs.cells_to_take.Symbol as cells-of-def
-use Rattle.layout.proofs.cells_to_take.Symbol.{name as #layout·cells-to-take}
-use Rattle.layout.proofs.cells_to_take.Met as cells-of-thm
-use Rattle.layout.proofs.records_to_take as count-of
-use Rattle.layout.proofs.records_to_take.Symbol as count-of-def
-use Rattle.layout.proofs.records_to_take.Symbol.{name as #layout·records-to-take}
-use Rattle.layout.proofs.records_to_take.Met as count-of-thm
+use Rattle.layout.proofs.reader.cells_to_take as cells-of
+use Rattle.layout.proofs.reader.cells_to_take.Symbol as cells-of-def
+use Rattle.layout.proofs.reader.cells_to_take.Symbol.{name as #layout·cells-to-take}
+use Rattle.layout.proofs.reader.cells_to_take.Met as cells-of-thm
+use Rattle.layout.proofs.reader.records_to_take as count-of
+use Rattle.layout.proofs.reader.records_to_take.Symbol as count-of-def
+use Rattle.layout.proofs.reader.records_to_take.Symbol.{name as #layout·records-to-take}
+use Rattle.layout.proofs.reader.records_to_take.Met as count-of-thm
 
 module _ {M : Type 1} (𝓤 : URA M) (H : Heap 𝓤) (A : Atoms 𝓤) (mem : Memory → SProp 𝓤) (run : Routine → Fun 𝓤) where
   abbrev pub CellsToTake : Contract 𝓤

@@ -36,8 +36,8 @@ use denote.Triple.Walked.{says}
 use Rattle.record.specs.declared.Peak.{Peak}
 use Rattle.record.proofs.Peak as T
 use Rattle.layout.specs.Layout.{recordIn, totalOf}
-use Rattle.layout.proofs.record_in as record-in
-use Rattle.layout.proofs.record_in.Symbol.{name as #layout·record-in}
+use Rattle.layout.proofs.records.record_in as record-in
+use Rattle.layout.proofs.records.record_in.Symbol.{name as #layout·record-in}
 
 abbrev pub RecordIn : {M : Type 1} (𝓤 : URA M) (H : Heap 𝓤) (A : Atoms 𝓤) (mem : Memory → SProp 𝓤)
     (run : Routine → Fun 𝓤) → Contract 𝓤

@@ -47,10 +47,10 @@ use Rattle.table.proofs.Again.{LentMut, lends-again, comes-back}
 use Rattle.layout.specs.declared.Written.{Written}
 use Rattle.layout.specs.Steps.{Few, GridPut}
 use Rattle.layout.proofs.Written as S
-use Rattle.layout.proofs.put_grid as grid
-use Rattle.layout.proofs.put_grid.Symbol as grid-def
-use Rattle.layout.proofs.put_grid.Symbol.{name as #layout·put-grid}
-use Rattle.layout.proofs.put_grid.Met as grid-thm
+use Rattle.layout.proofs.writer.put_grid as grid
+use Rattle.layout.proofs.writer.put_grid.Symbol as grid-def
+use Rattle.layout.proofs.writer.put_grid.Symbol.{name as #layout·put-grid}
+use Rattle.layout.proofs.writer.put_grid.Met as grid-thm
 use Rattle.runfile.proofs.Slices.{valueOf, sliceAt, OwnShr, copies, Leaves, calls-leaves}
 
 abbrev pub PutGrid : {M : Type 1} (𝓤 : URA M) (H : Heap 𝓤) (A : Atoms 𝓤) (mem : Memory → SProp 𝓤)

@@ -45,10 +45,10 @@ use Rattle.layout.specs.Sound.{FirstUnsound}
 use Rattle.layout.specs.Steps.{putOf}
 use Rattle.layout.proofs.Written as S
 use Rattle.layout.proofs.Written.Laws as S′
-use Rattle.layout.proofs.records_to_put as count-of
-use Rattle.layout.proofs.records_to_put.Symbol as count-of-def
-use Rattle.layout.proofs.records_to_put.Symbol.{name as #layout·records-to-put}
-use Rattle.layout.proofs.records_to_put.Met as count-of-thm
+use Rattle.layout.proofs.writer.records_to_put as count-of
+use Rattle.layout.proofs.writer.records_to_put.Symbol as count-of-def
+use Rattle.layout.proofs.writer.records_to_put.Symbol.{name as #layout·records-to-put}
+use Rattle.layout.proofs.writer.records_to_put.Met as count-of-thm
 use Rattle.runfile.proofs.Slices.{valueOf, OwnShr, copies, calls-slices}
 use Rattle.runfile.proofs.first_unsound as unsound
 use Rattle.runfile.proofs.first_unsound.Symbol as unsound-def

@@ -1,0 +1,106 @@
+-- `layout::take_heights` meets its contract. The invariant: the first i heights are the file's, the others as they
+-- were. The measure is what is left of the heights. Assumes nothing.
+use mathlib.Core.List.{List, _++_}
+use mathlib.Core.Path.{_≡_, refl, ap, _∙_}
+use Prim.Native.Nat.{ℕ, _-_, _≤_}
+use native.Mathlib.Numerals.{add-one}
+use native.Mathlib.Omega.{arith}
+use denote.Ref.{now}
+use lib.IntN.{ℤ}
+use lib.ListN.{length, drop, length-append, length-drop}
+use mir.Syntax.{w32}
+use mir.Val.{SFits}
+use mir.ValLaws.{toZ-ofZ}
+use Rattle.layout.specs.Layout.{signedOf, heightsIn}
+use Rattle.layout.proofs.Rows.{heights-length, heights-fill}
+use borrow.Author.Needs.{needs}
+use Rattle.layout.proofs.reader.take_heights.Statement.{statement}
+use Rattle.layout.proofs.reader.take_heights.Tie as tie
+
+abbrev Inv-loop : tie.InvT-loop
+Inv-loop file heights₀ n i₀ heights i = (i ≤ n) × (heights ≡ heightsIn file i ++ drop i heights₀)
+
+abbrev μ-loop : tie.MeasureT-loop
+μ-loop file heights₀ n i₀ heights i = n - i
+
+-- The length of the lent row stays.
+filled-length :
+    (f : List ℕ) (old new : List ℤ) (i : ℕ) → i ≤ length old → new ≡ heightsIn f i ++ drop i old →
+    length new ≡ length old
+filled-length f old new i h e =
+    ap length e ∙ length-append (heightsIn f i) (drop i old)
+    ∙ omega (arith, heights-length f i, length-drop i old)
+
+loop-holds : tie.Need-loop-holds Inv-loop μ-loop
+unfolding heightsIn
+loop-holds c = (omega arith, refl)
+
+add-get : tie.Need-add-get Inv-loop μ-loop
+add-get c = omega (arith, c .before .before .before .pre .0 (omega arith))
+
+get-requires : tie.Need-get-requires Inv-loop μ-loop
+get-requires c κs = omega (arith, c .before .before .before .pre .0 (omega arith))
+
+mul-t9 : tie.Need-mul-t9 Inv-loop μ-loop
+mul-t9 c =
+    let c4 = c .before .before .before .before in
+    omega (arith, c4 .before .pre .0 (omega arith))
+
+slice-set-from-heights : tie.Need-slice-set-from-heights Inv-loop μ-loop
+slice-set-from-heights c =
+    let c4 = c .before .before .before .before in
+    let args = c4 .before .args in
+    let loop = c .before .before .before .loop in
+    omega (
+      arith,
+      filled-length (now (args .file)) (now (args .heights)) (loop .heights) (loop .i) (omega arith)
+          (loop .inv .1),
+    )
+
+add-i : tie.Need-add-i Inv-loop μ-loop
+add-i c = omega arith
+
+loop-less : tie.Need-loop-less Inv-loop μ-loop
+loop-less c = omega arith
+
+loop-again : tie.Need-loop-again Inv-loop μ-loop
+loop-again c =
+    let c4 = c .before .before .before .before in
+    let args = c4 .before .args in
+    let loop = c .before .before .before .loop in
+    let fits : SFits w32 (c .signed .result) = record { sfits = c .signed .ok } in
+    let value = toZ-ofZ w32 (c .signed .result) fits ∙ c .signed .ensures ∙ ap signedOf (c .before .get .ensures) in (
+      omega arith,
+      rw (add-one (loop .i), value, loop .inv .1)
+          (heights-fill (now (args .file)) (now (args .heights)) (loop .i) (omega arith)),
+    )
+
+same-length : tie.Need-same-length Inv-loop μ-loop
+same-length c =
+    let args = c .before .before .before .args in
+    let loop = c .before .loop in
+    filled-length (now (args .file)) (now (args .heights)) (loop .heights) (loop .i) (omega arith) (loop .inv .1)
+
+returns : tie.Need-returns Inv-loop μ-loop
+returns c =
+    let loop = c .before .loop in
+    let e : loop .i ≡ c .before .before .before .args .n = omega arith in
+    rw e at (loop .inv .1)
+
+pub take-heights-spec : {M : Type 1} → statement M
+take-heights-spec =
+    tie.close
+    (tie.spec
+    Inv-loop
+    μ-loop
+    loop-holds
+    add-get
+    get-requires
+    (λ c κs. search needs)
+    mul-t9
+    slice-set-from-heights
+    add-i
+    loop-less
+    loop-again
+    same-length
+    returns)

@@ -1,0 +1,30 @@
+-- `layout::is_sound_in` meets its contract: what its cell and its pass cell hold decides whether a record is sound.
+-- Assumes nothing.
+use denote.Ref.{now}
+use Rattle.layout.specs.Layout.{heightsIn}
+use Rattle.layout.proofs.Rows.{fetched, heights-length}
+use borrow.Author.Needs.{needs}
+use Rattle.layout.proofs.soundness.is_sound_in.Statement.{statement}
+use Rattle.layout.proofs.soundness.is_sound_in.Tie as tie
+
+returns : tie.Need-returns
+returns c =
+    let c4 = c .before .before .before .before in
+    let args = c4 .before .before .args in
+    let hs = heightsIn (now (args .file)) (args .cells) in
+    let here = c .before .before .before .height-in in
+    let there = c .before .height-in2 in
+    c .is-sound .ensures hs (heights-length (now (args .file)) (args .cells))
+    (fetched hs (record { sfits = here .ok }) (here .ensures) (c4 .index .ensures))
+    (fetched hs (record { sfits = there .ok }) (there .ensures) (c .before .before .index2 .ensures))
+
+pub is-sound-in-spec : {M : Type 1} → statement M
+is-sound-in-spec =
+    tie.close
+    (tie.spec
+    (λ c κs. search needs)
+    (λ c κs. search needs)
+    (λ c κs. search needs)
+    (λ c κs. search needs)
+    (λ c κs. search needs)
+    returns)

@@ -1,0 +1,26 @@
+// Numbers as the file has them: the two's complement of a height, and the cells of a grid.
+ghost use mathlib.Core.Path.{_≡_};
+ghost use Prim.Native.Nat.{_*_};
+ghost use Rattle.layout.specs.Layout.{bitsOf, signedOf};
+
+// What a level and the bits of its height differ by, modulo 2^32.
+const HALF: u32 = 2147483648;
+
+pub fn bits(height: i32) -> u32
+    ensures { λ r. ⌜ r ≡ bitsOf height ⌝ }
+{
+    std::num::wrapping_add_u32(record::level(height), HALF)
+}
+
+pub fn signed(bits: u32) -> i32
+    ensures { λ r. ⌜ r ≡ signedOf bits ⌝ }
+{
+    record::height(std::num::wrapping_add_u32(bits, HALF))
+}
+
+// The cells of a grid. The product of two 32-bit numbers is made in 64 bits.
+pub fn cells_of(rows: u32, columns: u32) -> usize
+    ensures { λ r. ⌜ r ≡ rows * columns ⌝ }
+{
+    words::index(rows) * words::index(columns)
+}

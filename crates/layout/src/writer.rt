@@ -1,0 +1,115 @@
+// Writing all but the records, and one record at a time.
+ghost use mathlib.Core.List.{map};
+ghost use mathlib.Core.Path.{_≡_};
+ghost use Prim.Native.Nat.{_+_, _*_, _<_, _≤_};
+ghost use lib.ListN.{length};
+ghost use Rattle.layout.specs.Layout.{bitsOf, wordOf, bytesOf, headerOf, recordOf, totalOf};
+ghost use Rattle.layout.specs.Writing.{writtenOf};
+ghost use Rattle.layout.specs.Steps.{over, Few, GridPut};
+ghost use Rattle.layout.specs.Steps.{putOf};
+use crate::Written;
+use crate::numbers::bits;
+use record::Cell;
+use record::Peak;
+use record::Refusal;
+
+// The answer of `write`.
+fn plan(rows: u32, cells: usize, n: usize, unsound: usize, room: usize) -> Written
+    requires { ⌜ Few cells n unsound ⌝ }
+    ensures { λ r. ⌜ r ≡ writtenOf rows cells n unsound room ⌝ }
+{
+    if rows == 0 {
+        return Written::Refused(Refusal::Rows);
+    }
+    if Cell::MAX_ROWS < rows {
+        return Written::Refused(Refusal::Rows);
+    }
+    if cells % words::index(rows) != 0 {
+        return Written::Refused(Refusal::Length);
+    }
+    if Cell::MAX_CELLS < cells {
+        return Written::Refused(Refusal::Cells);
+    }
+    if unsound < n {
+        return Written::Refused(Refusal::Unsound {
+            index: words::narrow(unsound),
+        });
+    }
+    let total = 24 + 4 * cells + 16 * n;
+    if room < total {
+        return Written::Refused(Refusal::Room {
+            needed: words::narrow(total),
+        });
+    }
+    Written::Bytes(words::narrow(total))
+}
+
+// Puts a number at the i-th place of four bytes.
+fn put_word(room: &mut [u8], i: usize, v: u32)
+    requires { ⌜ 4 * i + 4 ≤ length (now room) ⌝ }
+    ensures { λ r. ⌜ now (room .exit) ≡ over (now (room .entry)) (4 * i) (wordOf v) ⌝ }
+{
+    words::put(room, i, v);
+}
+
+fn put_header(room: &mut [u8], rows: u32, cells: usize, n: usize)
+    requires { ⌜ (totalOf cells n ≤ length (now room)) × ((totalOf cells n < 4294967296) × (0 < rows)) ⌝ }
+    ensures { λ r. ⌜ now (room .exit) ≡ over (now (room .entry)) 0 (bytesOf (headerOf rows cells n)) ⌝ }
+{
+    let columns = cells / words::index(rows);
+    let offset = 24 + 4 * cells;
+    let total = offset + 16 * n;
+    put_word(room, 0, rows);
+    put_word(room, 1, words::narrow(columns));
+    put_word(room, 2, words::narrow(n));
+    put_word(room, 3, 24);
+    put_word(room, 4, words::narrow(offset));
+    put_word(room, 5, words::narrow(total));
+}
+
+fn put_heights(room: &mut [u8], heights: &[i32])
+    requires { ⌜ 24 + 4 * length (now heights) ≤ length (now room) ⌝ }
+    ensures { λ r. ⌜ now (room .exit) ≡ over (now (room .entry)) 24 (bytesOf (map bitsOf (now (heights .entry)))) ⌝ }
+{
+    let mut i: usize = 0;
+    while i < heights.len() {
+        put_word(room, 6 + i, bits(heights[i]));
+        i += 1;
+    }
+}
+
+// Puts the i-th record behind so many cells.
+pub fn put_record(room: &mut [u8], cells: usize, i: usize, p: Peak)
+    requires { ⌜ totalOf cells (i + 1) ≤ length (now room) ⌝ }
+    ensures { λ r. ⌜ now (room .exit) ≡ over (now (room .entry)) (totalOf cells i) (bytesOf (recordOf p)) ⌝ }
+{
+    let at = 6 + cells + 4 * i;
+    put_word(room, at, p.cell);
+    put_word(room, at + 1, bits(p.height));
+    put_word(room, at + 2, bits(p.key));
+    put_word(room, at + 3, p.pass);
+}
+
+// The number of records that the answer says are to be put.
+pub fn records_to_put(answer: Written, n: usize) -> usize
+    ensures { λ r. ⌜ r ≡ putOf answer n ⌝ }
+{
+    match answer {
+        Written::Bytes(_) => n,
+        Written::Refused(_) => 0,
+    }
+}
+
+// Decides the answer of `write` and, unless it is a refusal, puts header and heights.
+pub fn put_grid(rows: u32, heights: &[i32], n: usize, unsound: usize, room: &mut [u8]) -> Written
+    requires { ⌜ Few (length (now heights)) n unsound ⌝ }
+    ensures { λ r. ⌜ GridPut rows (now (heights .entry)) n unsound (now (room .entry)) (now (room .exit)) r ⌝ }
+{
+    let answer = plan(rows, heights.len(), n, unsound, room.len());
+    if let Written::Refused(_) = answer {
+        return answer;
+    }
+    put_header(room, rows, heights.len(), n);
+    put_heights(room, heights);
+    answer
+}
