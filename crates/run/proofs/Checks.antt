@@ -1,6 +1,5 @@
--- The tests of Column and End, one after the other: the answer at each return, and what is known when all pass.
+-- The tests of Column and End, one after the other: the answer at each return.
 --     column-*, end-*          the answer at each return, by the tests so far
---     column-good, end-good    what the answer Good says
 --     product-fits, -wide      a product of columns and rows stays in 64 bits
 -- Assumes nothing.
 use mathlib.Core.Path.{_≡_, sym, _∙_, ap₂}

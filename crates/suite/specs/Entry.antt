@@ -1,6 +1,5 @@
 -- The C entry: the last paragraph of section "What comes back" of document 01, over the layouts of "Run file".
 --     heightsOf f n        the first n heights of the bytes f
---     cond b u v     u where the test passes, else v
 --     suiteAnswer          the answer, by the tests in the paper's order
 --     suiteTable           the bytes of the table after the call
 --     SuiteLists           the promise of the call: it determines the answer and the table on all inputs
