@@ -1,6 +1,5 @@
 // Run records that the next call must refuse, most of which no run has given: both listers answer them alike.
 use crate::both::Lent;
-use crate::both::Turn;
 use crate::both::end_agrees;
 use crate::both::offer;
 use crate::random::CELLS;

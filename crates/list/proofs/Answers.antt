@@ -7,7 +7,6 @@
 use mathlib.Core.Path.{_≡_, refl, sym, _∙_, ap, ap₂, subst}
 use mathlib.Core.List.{List, _++_, map}
 use Prim.Native.Nat.{ℕ, _*_, _%_, _≤_, _<_}
-use native.Mathlib.Omega.{arith}
 use lib.IntN.{ℤ}
 use lib.ListN.{length, drop}
 use borrow.Author.Tests.{eq-eqb, ne-eqb, lt-ltb, le-ltb}
@@ -28,7 +27,14 @@ use Rattle.record.proofs.Refusals.{rows-none, rows-many, rows-right}
 use Rattle.words.specs.Area.{levelIn}
 use Rattle.sweep.specs.Taking.{cut}
 use Rattle.table.specs.Table.{Counted, recordsIn, Fillable, countIn, cellsIn, tableAfter}
-use Rattle.table.proofs.Handing.{handed-fillable, handed-filled}
+use Rattle.table.proofs.Handing.{
+  handed-fillable,
+  handed-filled,
+  refused-count,
+  unused-early,
+  unused-short,
+  unused-count,
+}
 use Rattle.survey.specs.Answers.{entriesIn, Loaded, Answered}
 use Rattle.survey.proofs.Recording.{places-record, places-length}
 use Rattle.survey.proofs.Marking.{loaded-levels}
@@ -47,9 +53,6 @@ list-length : (left : List ℕ) (n k : ℕ) → length (entriesIn left n k) ≡ 
 list-length left n k = places-length _ k
 
 -- ---- the answers
-
-refused-count : {r : Refusal} {n : ℕ} → Refused r ≡ Count n → ⊥
-refused-count e = let z : _≡_ {A = ℕ} 0 1 = cc in omega arith
 
 count-same : {m n : ℕ} → Count m ≡ Count n → m ≡ n
 count-same e = cc
@@ -79,55 +82,59 @@ module _ (rows cells work room : ℕ) (some : rows ≡ 0 → ⊥) (few : rows �
 
 -- ---- `flat` at each return
 
-module _ {rows : ℕ} {heights : List ℤ} {T work room : ℕ} {left : List ℕ} where
+module _ {rows : ℕ} {heights : List ℤ} {T room : ℕ} {work left : List ℕ} where
   -- refused before the list is made: it is there all the same
-  refused-early : {r : Refusal} → ((k : ℕ) → Refused r ≡ listAnswer rows (length heights) work room k)
+  refused-early : {r : Refusal} → left ≡ work
+      → ((k : ℕ) → Refused r ≡ listAnswer rows (length heights) (length work) room k)
       → Flat rows heights T work room left (Refused r)
-  refused-early e = record {
+  refused-early same e = record {
     list = survey (plane? rows) (levels heights) (length heights) T;
     right = survey-list (plane-terrain rows heights) T;
     answered = e (length (survey (plane? rows) (levels heights) (length heights) T));
     counted = λ n q. absurd (refused-count q);
     records = λ n q. absurd (refused-count q);
+    unused = unused-early same;
   }
 
-  pub flat-no-rows : rows ≡ 0 → Flat rows heights T work room left (Refused Rows)
+  pub flat-no-rows : left ≡ work → rows ≡ 0 → Flat rows heights T work room left (Refused Rows)
   unfolding listAnswer
-  flat-no-rows e = refused-early (λ k. simp (rows-none e))
+  flat-no-rows same e = refused-early same (λ k. simp (rows-none e))
 
   module _ (some : rows ≡ 0 → ⊥) where
-    pub flat-many-rows : 1024 < rows → Flat rows heights T work room left (Refused Rows)
+    pub flat-many-rows : left ≡ work → 1024 < rows → Flat rows heights T work room left (Refused Rows)
     unfolding listAnswer
-    flat-many-rows l = refused-early (λ k. simp (rows-many l))
+    flat-many-rows same l = refused-early same (λ k. simp (rows-many l))
 
     module _ (few : rows ≤ 1024) where
-      pub flat-length : (length heights % rows ≡ 0 → ⊥) → Flat rows heights T work room left (Refused Length)
+      pub flat-length : left ≡ work → (length heights % rows ≡ 0 → ⊥)
+          → Flat rows heights T work room left (Refused Length)
       unfolding listAnswer
-      flat-length d =
-          refused-early (λ k. simp (rows-right some few, ne-eqb (length heights % rows) 0 d))
+      flat-length same d =
+          refused-early same (λ k. simp (rows-right some few, ne-eqb (length heights % rows) 0 d))
 
       module _ (whole : length heights % rows ≡ 0) where
-        pub flat-cells : 1048576 < length heights → Flat rows heights T work room left (Refused Cells)
+        pub flat-cells : left ≡ work → 1048576 < length heights → Flat rows heights T work room left (Refused Cells)
         unfolding listAnswer
-        flat-cells l =
-            refused-early (λ k. simp (
+        flat-cells same l =
+            refused-early same (λ k. simp (
               rows-right some few,
               eq-eqb (length heights % rows) 0 whole,
               lt-ltb 1048576 (length heights) l,
             ))
 
         module _ (fits : length heights ≤ 1048576) where
-          pub flat-work : work < 16 * length heights → Flat rows heights T work room left (Refused Work)
+          pub flat-work : left ≡ work → length work < 16 * length heights
+              → Flat rows heights T work room left (Refused Work)
           unfolding listAnswer
-          flat-work l =
-              refused-early (λ k. simp (
+          flat-work same l =
+              refused-early same (λ k. simp (
                 rows-right some few,
                 eq-eqb (length heights % rows) 0 whole,
                 le-ltb 1048576 (length heights) fits,
-                lt-ltb work (16 * length heights) l,
+                lt-ltb (length work) (16 * length heights) l,
               ))
 
-          module _ (space : 16 * length heights ≤ work) {s t : List ℕ} {k : ℕ}
+          module _ (space : 16 * length heights ≤ length work) {s t : List ℕ} {k : ℕ}
               (loaded : Loaded s t heights (length heights)) (made : Answered t left (length heights)
               (Listed (Plane rows) (cut (length heights) (levelIn t)) T) k) where
             pub flat-short : {m : ℕ} → m ≡ k → room < k → Flat rows heights T work room left (Refused (Table m))
@@ -135,48 +142,55 @@ module _ {rows : ℕ} {heights : List ℤ} {T work room : ℕ} {left : List ℕ}
               list = entriesIn left (length heights) k;
               right = list-right loaded made;
               answered = ap (λ (x : ℕ). Refused (Table x)) e
-                  ∙ answer-short rows (length heights) work room some few whole fits space k l
-                  ∙ ap (listAnswer rows (length heights) work room) (sym (list-length left (length heights) k));
+                  ∙ answer-short rows (length heights) (length work) room some few whole fits space k l
+                  ∙ ap (listAnswer rows (length heights) (length work) room)
+                  (sym (list-length left (length heights) k));
               counted = λ n q. absurd (refused-count q);
               records = λ n q. absurd (refused-count q);
+              unused = unused-short;
             }
 
             pub flat-count : {m : ℕ} → m ≡ k → k ≤ room → Flat rows heights T work room left (Count m)
             flat-count e l = record {
               list = entriesIn left (length heights) k;
               right = list-right loaded made;
-              answered = ap Count e ∙ answer-count rows (length heights) work room some few whole fits space k l
-                  ∙ ap (listAnswer rows (length heights) work room) (sym (list-length left (length heights) k));
+              answered = ap Count e
+                  ∙ answer-count rows (length heights) (length work) room some few whole fits space k l
+                  ∙ ap (listAnswer rows (length heights) (length work) room)
+                  (sym (list-length left (length heights) k));
               counted = λ n q. let f = sym e ∙ count-same q in
                   (subst (Counted left (length heights)) f (made .counted), subst (λ (x : ℕ). x ≤ room) f l);
               records = λ n q. let f = sym e ∙ count-same q in
                   ap (recordsIn left (length heights)) (sym f) ∙ places-record left (length heights) k;
+              unused = unused-count;
             }
 
 -- ---- the row
 
-module _ {rows : ℕ} {heights : List ℤ} {T work : ℕ} (table : List Peak) {left : List ℕ} where
+module _ {rows : ℕ} {heights : List ℤ} {T : ℕ} {work : List ℕ} (table : List Peak) {left : List ℕ} where
   pub flat-fillable : (a : Handed) → Flat rows heights T work (length table) left a
       → Fillable table left (cellsIn a (length heights)) (countIn a)
   flat-fillable a h = handed-fillable table left a (λ n e. refl) (h .counted)
 
   pub flat-lists : (a : Handed) → Flat rows heights T work (length table) left a → {t : List Peak}
       → t ≡ recordsIn left (cellsIn a (length heights)) (countIn a) ++ drop (countIn a) table
-      → Lists rows heights T work table t a
+      → Lists rows heights T work left table t a
   flat-lists a h e = record {
     list = h .list;
     right = h .right;
     answered = h .answered;
     filled = e ∙ handed-filled table left a (λ n q. refl) (h .records);
+    unused = h .unused;
   }
 
 -- ---- one answer
 
-pub list-unique : {rows : ℕ} {heights : List ℤ} {T work : ℕ} {table t u : List Peak} {a b : Handed}
-    → Lists rows heights T work table t a → Lists rows heights T work table u b → (a ≡ b) × (t ≡ u)
-list-unique {rows} {heights} {T} {work} {table} {t} {u} {a} {b} h k =
+pub list-unique : {rows : ℕ} {heights : List ℤ} {T : ℕ} {work w v : List ℕ} {table t u : List Peak} {a b : Handed}
+    → Lists rows heights T work w table t a → Lists rows heights T work v table u b → (a ≡ b) × (t ≡ u)
+list-unique {rows} {heights} {T} {work} {w} {v} {table} {t} {u} {a} {b} h k =
     let e : h .list ≡ k .list = order-unique (h .list) (k .list) (h .right) (k .right) in
     let q : a ≡ b = h .answered
-    ∙ ap (λ (l : List Entry). listAnswer rows (length heights) work (length table) (length l)) e ∙ sym (k .answered) in
+    ∙ ap (λ (l : List Entry). listAnswer rows (length heights) (length work) (length table) (length l)) e
+    ∙ sym (k .answered) in
     let f = ap₂ (λ (x : Handed) (l : List Entry). tableAfter x (map recordOf l) table) q e in
     (q, h .filled ∙ f ∙ sym (k .filled))

@@ -3,4 +3,4 @@ use Rattle.list.specs.Claims.{Claims}
 use Rattle.list.proofs.Answers.{list-unique}
 
 pub claims : Claims
-claims = record { list-unique = λ rows heights T work table t t′ r r′. list-unique }
+claims = record { list-unique = λ rows heights T work w w′ table t t′ r r′. list-unique }

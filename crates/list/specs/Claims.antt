@@ -12,8 +12,8 @@ use Rattle.list.specs.Listing.{Lists}
 
 -- Two answers and two rows that `Lists` allows of one call are equal.
 abbrev pub ListUnique : Type 0
-ListUnique = (rows : ℕ) (heights : List ℤ) (T work : ℕ) (table t t′ : List Peak) (r r′ : Handed)
-    → Lists rows heights T work table t r → Lists rows heights T work table t′ r′ → (r ≡ r′) × (t ≡ t′)
+ListUnique = (rows : ℕ) (heights : List ℤ) (T : ℕ) (work w w′ : List ℕ) (table t t′ : List Peak) (r r′ : Handed)
+    → Lists rows heights T work w table t r → Lists rows heights T work w′ table t′ r′ → (r ≡ r′) × (t ≡ t′)
 
 pub record Claims : Type 0 where
   pub list-unique : ListUnique

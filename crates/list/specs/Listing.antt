@@ -17,7 +17,7 @@ use Rattle.record.specs.declared.Peak.{Peak}
 use Rattle.record.specs.declared.Refusal.the-variants.{Rows, Length, Cells, Work, Table}
 use Rattle.record.specs.Records.{recordOf}
 use Rattle.record.specs.Refusals.{badRows}
-use Rattle.table.specs.Table.{Counted, recordsIn, tableAfter}
+use Rattle.table.specs.Table.{Counted, recordsIn, tableAfter, Unused}
 use Rattle.record.specs.declared.Handed.{Handed}
 use Rattle.record.specs.declared.Handed.the-variants.{Count, Refused}
 
@@ -36,17 +36,21 @@ listAnswer rows cells work room needed =
     (cond (ltb room needed) (Refused (Table needed)) (Count needed)))))
 
 -- The list of the definition is there for every grid and is one (`list-exists`, `order-unique` of `theorems`). The
--- heights are lent to be read, and the work area's contents are left open (docs/EXCEPTIONS.md).
-pub record Lists (rows : ℕ) (heights : List ℤ) (T work : ℕ) (table table′ : List Peak) (answer : Handed) : Type 0 where
+-- heights are lent to be read.
+pub record Lists (rows : ℕ) (heights : List ℤ) (T : ℕ) (work work′ : List ℕ) (table table′ : List Peak)
+    (answer : Handed) : Type 0 where
   pub list : List Entry
   pub right : ListOf (Plane rows) (levels heights) T list
-  pub answered : answer ≡ listAnswer rows (length heights) work (length table) (length list)
+  pub answered : answer ≡ listAnswer rows (length heights) (length work) (length table) (length list)
   pub filled : table′ ≡ tableAfter answer (map recordOf list) table
+  pub unused : Unused answer work work′
 
 -- The same where only the room of the row is known: the records stand in the work area `left`.
-pub record Flat (rows : ℕ) (heights : List ℤ) (T work room : ℕ) (left : List ℕ) (answer : Handed) : Type 0 where
+pub record Flat (rows : ℕ) (heights : List ℤ) (T : ℕ) (work : List ℕ) (room : ℕ) (left : List ℕ)
+    (answer : Handed) : Type 0 where
   pub list : List Entry
   pub right : ListOf (Plane rows) (levels heights) T list
-  pub answered : answer ≡ listAnswer rows (length heights) work room (length list)
+  pub answered : answer ≡ listAnswer rows (length heights) (length work) room (length list)
   pub counted : (n : ℕ) → answer ≡ Count n → Counted left (length heights) n × (n ≤ room)
   pub records : (n : ℕ) → answer ≡ Count n → recordsIn left (length heights) n ≡ map recordOf list
+  pub unused : Unused answer work left

@@ -1,6 +1,4 @@
 // The whole-grid call: the flat core behind the refusals, and the lent row of records filled from it.
-ghost use mathlib.Core.Path.{_≡_};
-ghost use lib.ListN.{length};
 ghost use Rattle.list.specs.Listing.{Lists, Flat};
 use record::Cell;
 use record::Handed;
@@ -9,8 +7,7 @@ use record::Refusal;
 
 // The whole-grid call without the table, of which only the room counts: the records are left in the work area.
 pub fn flat(rows: u32, heights: &[i32], threshold: u32, work: &mut [u8], room: usize) -> Handed
-    ensures { λ r. ⌜ Flat rows (now (heights .entry)) threshold (length (now (work .entry))) room
-        (now (work .exit)) r ⌝ }
+    ensures { λ r. ⌜ Flat rows (now (heights .entry)) threshold (now (work .entry)) room (now (work .exit)) r ⌝ }
 {
     if rows == 0 {
         return Handed::Refused(Refusal::Rows);
@@ -47,7 +44,7 @@ pub fn list(
     work: &mut [u8],
     table: &mut [Peak],
 ) -> Handed
-    ensures { λ r. ⌜ Lists rows (now (heights .entry)) threshold (length (now (work .entry)))
+    ensures { λ r. ⌜ Lists rows (now (heights .entry)) threshold (now (work .entry)) (now (work .exit))
         (now (table .entry)) (now (table .exit)) r ⌝ }
 {
     let room = table.len();

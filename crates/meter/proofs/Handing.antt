@@ -33,8 +33,8 @@ module _ (left table : List ℕ) (cells : ℕ) where
   put (Count n) batch h = ap (λ (l : List Peak). bytesOf (recordsOf l) ++ drop (16 * n) table) (h n refl)
   put (Refused r) batch h = refl
 
-module _ {run : Run} {column grid grid′ : List ℤ} {work : ℕ} (table : List ℕ) {left : List ℕ} {after : Run} {a : Handed}
-    (h : FlatColumn run column grid grid′ work (length table / 16) left after a) where
+module _ {run : Run} {column grid grid′ : List ℤ} {work : List ℕ} (table : List ℕ) {left : List ℕ} {after : Run}
+    {a : Handed} (h : FlatColumn run column grid grid′ work (length table / 16) left after a) where
   pub column-puttable :
       Counted left (cellsIn a (takenOf run + run .rows)) (countIn a) × (16 * countIn a ≤ length table)
   column-puttable = puttable left table (takenOf run + run .rows) a (h .counted)

@@ -6,7 +6,6 @@ use libc::STDOUT_FILENO;
 use record::Cell;
 use record::Handed;
 use record::Peak;
-use record::Refusal;
 
 // "The program takes at most 65,536 bytes [..] and 4,096 cells".
 const MOST_CELLS: usize = 4096;

@@ -22,8 +22,8 @@ use Rattle.record.specs.declared.Handed.the-variants.{Count, Refused}
 use Rattle.run.specs.Running.{takenOf, GoodColumn, GoodEnd, FlatColumn, FlatEnd}
 use Rattle.run.proofs.Columns.{column-short, column-count, end-short, end-count}
 
-module _ (run : Run) (column grid : List ℤ) (work room : ℕ) (left : List ℕ)
-    (g : GoodColumn run (length column) (length grid) work)
+module _ (run : Run) (column grid : List ℤ) (work : List ℕ) (room : ℕ) (left : List ℕ)
+    (g : GoodColumn run (length column) (length grid) (length work))
     {r k : ℕ} (er : r ≡ run .rows) (ek : k ≡ run .columns) where
   product : k * r ≡ takenOf run
   product = ap₂ (λ (x y : ℕ). x * y) ek er
@@ -35,7 +35,7 @@ module _ (run : Run) (column grid : List ℤ) (work room : ℕ) (left : List ℕ
   column-copying = let e = product in let h = g .fits in let i = g .whole in omega arith
 
   pub column-loading : {copied : List ℤ} {bytes : List ℕ} → copied ≡ paste grid (k * r) column (length column)
-      → length bytes ≡ work
+      → length bytes ≡ length work
       → Loading bytes copied (k * r + r)
   column-loading {copied} e f =
       let p = product in
@@ -44,7 +44,7 @@ module _ (run : Run) (column grid : List ℤ) (work room : ℕ) (left : List ℕ
       let i = g .whole in
       record { area = record { few = column-sum; room = let s = g .space in omega arith }; all = omega arith }
 
-  pub column-surveying : {bytes t : List ℕ} {heights : List ℤ} → length bytes ≡ work
+  pub column-surveying : {bytes t : List ℕ} {heights : List ℤ} → length bytes ≡ length work
       → Loaded bytes t heights (k * r + r)
       → Surveying t (k * r + r) r × (k * r ≤ k * r + r)
   column-surveying e h =
@@ -95,15 +95,15 @@ module _ (run : Run) (column grid : List ℤ) (work room : ℕ) (left : List ℕ
         (Count n))
         (sym paste-is) (column-count run column grid work room left g loaded-is made-is refl l)
 
-module _ (run : Run) (grid : List ℤ) (work room : ℕ) (left : List ℕ) (g : GoodEnd run (length grid) work)
-    {r k : ℕ} (er : r ≡ run .rows) (ek : k ≡ run .columns) where
+module _ (run : Run) (grid : List ℤ) (work : List ℕ) (room : ℕ) (left : List ℕ)
+    (g : GoodEnd run (length grid) (length work)) {r k : ℕ} (er : r ≡ run .rows) (ek : k ≡ run .columns) where
   end-product : k * r ≡ takenOf run
   end-product = ap₂ (λ (x y : ℕ). x * y) ek er
 
   pub end-sum : k * r ≤ 1048576
   end-sum = let e = end-product in let h = g .cells in omega arith
 
-  pub end-loading : {bytes : List ℕ} → length bytes ≡ work → Loading bytes grid (k * r)
+  pub end-loading : {bytes : List ℕ} → length bytes ≡ length work → Loading bytes grid (k * r)
   end-loading e =
       let p = end-product in
       record {
@@ -111,8 +111,8 @@ module _ (run : Run) (grid : List ℤ) (work room : ℕ) (left : List ℕ) (g : 
         all = let f = g .fits in omega arith;
       }
 
-  pub end-surveying : {bytes t : List ℕ} {heights : List ℤ} → length bytes ≡ work → Loaded bytes t heights (k * r)
-      → Surveying t (k * r) r
+  pub end-surveying : {bytes t : List ℕ} {heights : List ℤ} → length bytes ≡ length work
+      → Loaded bytes t heights (k * r) → Surveying t (k * r) r
   end-surveying e h =
       let p = end-product in
       let l = h .len in

@@ -32,6 +32,7 @@ use Rattle.words.specs.Area.{levelIn}
 use Rattle.sweep.specs.Taking.{cut}
 use Rattle.sweep.proofs.Work.{cut-below, cut-behind}
 use Rattle.table.specs.Table.{Counted, recordsIn}
+use Rattle.table.proofs.Handing.{refused-count, unused-early, unused-short, unused-count}
 use Rattle.survey.specs.Answers.{entriesIn, Loaded, Answered, stageIn}
 use Rattle.survey.proofs.Recording.{places-record, places-length}
 use Rattle.run.specs.declared.Run.{Run}
@@ -135,9 +136,6 @@ stage-is rows columns whole h l e = λ i. record {
 
 -- ---- the answers
 
-refused-count : {r : Refusal} {n : ℕ} → Refused r ≡ Count n → ⊥
-refused-count e = let z : _≡_ {A = ℕ} 0 1 = cc in omega arith
-
 count-same : {m n : ℕ} → Count m ≡ Count n → m ≡ n
 count-same e = cc
 
@@ -150,13 +148,14 @@ answer-short {c} {room} {k} e f l = rw (e, f) (simp (lt-ltb room k l))
 answer-count : {c : Checked} {room k m : ℕ} → c ≡ Good → m ≡ k → k ≤ room → Count m ≡ handedAnswer c room k
 answer-count {c} {room} {k} e f l = rw (e, f) (simp (le-ltb room k l))
 
-module _ (run : Run) (column grid : List ℤ) (work room : ℕ) (left : List ℕ) where
+module _ (run : Run) (column grid : List ℤ) (work : List ℕ) (room : ℕ) (left : List ℕ) where
   abbrev whole : List ℤ
   whole = heightsWith run column grid
 
-  pub column-refused : {r : Refusal} → Bad r ≡ columnCheck run (length column) (length grid) work
+  pub column-refused : {r : Refusal} → left ≡ work
+      → Bad r ≡ columnCheck run (length column) (length grid) (length work)
       → FlatColumn run column grid grid work room left run (Refused r)
-  column-refused e = record {
+  column-refused same e = record {
     batch = surveyBatch (plane? (run .rows)) (stageOf (run .rows) (run .columns) whole)
         (stageOf (run .rows) (suc (run .columns)) whole) (run .threshold);
     right = survey-batch (plane-staged (run .rows) (run .columns) whole)
@@ -166,22 +165,24 @@ module _ (run : Run) (column grid : List ℤ) (work room : ℕ) (left : List ℕ
     grid-after = ap (λ (c : Checked). columnGrid c run column grid) e;
     counted = λ n q. absurd (refused-count q);
     records = λ n q. absurd (refused-count q);
+    unused = unused-early same;
   }
 
-  pub end-refused : {r : Refusal} → Bad r ≡ endCheck run (length grid) work
+  pub end-refused : {r : Refusal} → left ≡ work → Bad r ≡ endCheck run (length grid) (length work)
       → FlatEnd run grid work room left run (Refused r)
-  end-refused e = record {
+  end-refused same e = record {
     rest = surveyRest (plane? (run .rows)) (stageOf (run .rows) (run .columns) grid) (run .threshold);
     right = survey-rest (plane-staged (run .rows) (run .columns) grid) (run .threshold);
     answered = answer-bad room _ e;
     run-after = refl;
     counted = λ n q. absurd (refused-count q);
     records = λ n q. absurd (refused-count q);
+    unused = unused-early same;
   }
 
   -- ---- Column
 
-  module _ (g : GoodColumn run (length column) (length grid) work) {s t : List ℕ} {k : ℕ}
+  module _ (g : GoodColumn run (length column) (length grid) (length work)) {s t : List ℕ} {k : ℕ}
       (loaded : Loaded s t (paste grid (takenOf run) column (length column)) (takenOf run + run .rows))
       (made : Answered t left (takenOf run + run .rows)
       (Closing (Plane (run .rows)) (stageIn t (takenOf run) (run .rows))
@@ -236,6 +237,7 @@ module _ (run : Run) (column grid : List ℤ) (work room : ℕ) (left : List ℕ
       grid-after = ap (λ (c : Checked). columnGrid c run column grid) (sym (g .good));
       counted = λ n q. absurd (refused-count q);
       records = λ n q. absurd (refused-count q);
+      unused = unused-short;
     }
 
     pub column-count : {m : ℕ} → m ≡ k → k ≤ room
@@ -254,11 +256,12 @@ module _ (run : Run) (column grid : List ℤ) (work room : ℕ) (left : List ℕ
           subst (λ (x : ℕ). recordsIn left (takenOf run + run .rows) x ≡ map recordOf
           (entriesIn left (takenOf run + run .rows) k)) f
           (places-record left (takenOf run + run .rows) k);
+      unused = unused-count;
     }
 
   -- ---- End
 
-  module _ (g : GoodEnd run (length grid) work) {s t : List ℕ} {k : ℕ} (loaded : Loaded s t grid (takenOf run))
+  module _ (g : GoodEnd run (length grid) (length work)) {s t : List ℕ} {k : ℕ} (loaded : Loaded s t grid (takenOf run))
       (made : Answered t left (takenOf run)
       (Remaining (Plane (run .rows)) (stageIn t (takenOf run) (run .rows)) (run .threshold)) k) where
     rest-right : Rest (Plane (run .rows)) (stageOf (run .rows) (run .columns) grid) (run .threshold)
@@ -278,6 +281,7 @@ module _ (run : Run) (column grid : List ℤ) (work room : ℕ) (left : List ℕ
       run-after = refl;
       counted = λ n q. absurd (refused-count q);
       records = λ n q. absurd (refused-count q);
+      unused = unused-short;
     }
 
     pub end-count : {m : ℕ} → m ≡ k → k ≤ room
@@ -293,4 +297,5 @@ module _ (run : Run) (column grid : List ℤ) (work room : ℕ) (left : List ℕ
       records = λ n q. let f = sym e ∙ count-same q in
           subst (λ (x : ℕ). recordsIn left (takenOf run) x ≡ map recordOf (entriesIn left (takenOf run) k)) f
           (places-record left (takenOf run) k);
+      unused = unused-count;
     }

@@ -33,32 +33,33 @@ column-taken run a e n q =
 
 -- ---- End
 
-module _ {run : Run} {grid : List ℤ} {work : ℕ} (table : List Peak) {left : List ℕ} {after : Run} {a : Handed}
+module _ {run : Run} {grid : List ℤ} {work : List ℕ} (table : List Peak) {left : List ℕ} {after : Run} {a : Handed}
     (h : FlatEnd run grid work (length table) left after a) where
   pub end-fillable : Fillable table left (cellsIn a (takenOf after)) (countIn a)
   end-fillable = handed-fillable table left a (end-taken run a (h .run-after)) (h .counted)
 
   pub end-filled : {t : List Peak}
       → t ≡ recordsIn left (cellsIn a (takenOf after)) (countIn a) ++ drop (countIn a) table
-      → Ends run grid work table t after a
+      → Ends run grid work left table t after a
   end-filled e = record {
     rest = h .rest;
     right = h .right;
     answered = h .answered;
     run-after = h .run-after;
     filled = e ∙ handed-filled table left a (end-taken run a (h .run-after)) (h .records);
+    unused = h .unused;
   }
 
 -- ---- Column
 
-module _ {run : Run} {column grid grid′ : List ℤ} {work : ℕ} (table : List Peak) {left : List ℕ} {after : Run}
+module _ {run : Run} {column grid grid′ : List ℤ} {work : List ℕ} (table : List Peak) {left : List ℕ} {after : Run}
     {a : Handed} (h : FlatColumn run column grid grid′ work (length table) left after a) where
   pub column-fillable : Fillable table left (cellsIn a (takenOf after)) (countIn a)
   column-fillable = handed-fillable table left a (column-taken run a (h .run-after)) (h .counted)
 
   pub column-filled : {t : List Peak}
       → t ≡ recordsIn left (cellsIn a (takenOf after)) (countIn a) ++ drop (countIn a) table
-      → Columns run column grid grid′ work table t after a
+      → Columns run column grid grid′ work left table t after a
   column-filled e = record {
     batch = h .batch;
     right = h .right;
@@ -66,4 +67,5 @@ module _ {run : Run} {column grid grid′ : List ℤ} {work : ℕ} (table : List
     run-after = h .run-after;
     grid-after = h .grid-after;
     filled = e ∙ handed-filled table left a (column-taken run a (h .run-after)) (h .records);
+    unused = h .unused;
   }

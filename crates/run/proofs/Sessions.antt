@@ -49,11 +49,11 @@ use Rattle.run.proofs.Columns.{column-passed}
 -- ---- one outcome
 
 pub column-unique : ColumnUnique
-column-unique run run′ run″ column grid g h work table t u a b p q =
+column-unique run run′ run″ column grid g h work w v table t u a b p q =
     let e : p .batch ≡ q .batch = order-unique (p .batch) (q .batch) (p .right) (q .right) in
     let f : a ≡ b =
     p .answered
-    ∙ ap (λ (l : List Entry). handedAnswer (columnCheck run (length column) (length grid) work) (length table)
+    ∙ ap (λ (l : List Entry). handedAnswer (columnCheck run (length column) (length grid) (length work)) (length table)
     (length l)) e
     ∙ sym (q .answered) in (
       f,
@@ -63,10 +63,11 @@ column-unique run run′ run″ column grid g h work table t u a b p q =
     )
 
 pub end-unique : EndUnique
-end-unique run run′ run″ grid work table t u a b p q =
+end-unique run run′ run″ grid work w v table t u a b p q =
     let e : p .rest ≡ q .rest = order-unique (p .rest) (q .rest) (p .right) (q .right) in
     let f : a ≡ b =
-    p .answered ∙ ap (λ (l : List Entry). handedAnswer (endCheck run (length grid) work) (length table) (length l)) e
+    p .answered
+    ∙ ap (λ (l : List Entry). handedAnswer (endCheck run (length grid) (length work)) (length table) (length l)) e
     ∙ sym (q .answered) in (
       f,
       p .run-after ∙ ap (λ (x : Handed). endRun x run) f ∙ sym (q .run-after),
@@ -161,10 +162,10 @@ told-begun rows T run e =
 pub calls-told : {run : Run} {cells : List ℤ} {batches : List (List Entry)} → Calls run cells batches
     → Told run cells batches
 calls-told (started {run} rows T e) = told-begun rows T run e
-calls-told (accepted {run} {run′} {cells} {column} {grid} {grid′} {batches} {work} {n} {table} c e h) =
+calls-told (accepted {run} {run′} {cells} {column} {grid} {grid′} {batches} {n} {work} {work′} {table} c e h) =
     let t = calls-told c in
-    let g = column-passed run (length column) (length grid) work
-    (counted-good (columnCheck run (length column) (length grid) work) (length table) (length (h .batch)) n
+    let g = column-passed run (length column) (length grid) (length work)
+    (counted-good (columnCheck run (length column) (length grid) (length work)) (length table) (length (h .batch)) n
     (h .answered)) in
     told-more run run′ cells column batches (h .batch) n t (g .whole) (h .run-after)
     (subst (λ (x : List ℤ). Batch (Plane (run .rows)) (stageOf (run .rows) (run .columns) (x ++ column))
@@ -175,7 +176,7 @@ calls-told (unended {run} {run′} {cells} {batches = batches} c h) =
     subst (λ (r : Run). Told r cells batches) (sym (h .run-after)) (calls-told c)
 
 pub session-holds : SessionHolds
-session-holds run run′ cells grid batches work n table table′ c e h =
+session-holds run run′ cells grid batches n work work′ table table′ c e h =
     let t = calls-told c in
     let plane : Touching = record {
       touch = Plane (run .rows);

@@ -16,19 +16,20 @@ use Rattle.run.specs.Running.{takenOf, Columns, Ends}
 use Rattle.run.specs.Sessions.{Calls, HoldsList}
 
 abbrev pub ColumnUnique : Type 0
-ColumnUnique = (run run′ run″ : Run) (column grid g h : List ℤ) (work : ℕ) (table t u : List Peak) (a b : Handed)
-    → Columns run column grid g work table t run′ a → Columns run column grid h work table u run″ b
+ColumnUnique = (run run′ run″ : Run) (column grid g h : List ℤ) (work w v : List ℕ) (table t u : List Peak)
+    (a b : Handed) → Columns run column grid g work w table t run′ a → Columns run column grid h work v table u run″ b
     → (a ≡ b) × (run′ ≡ run″) × (g ≡ h) × (t ≡ u)
 
 abbrev pub EndUnique : Type 0
-EndUnique = (run run′ run″ : Run) (grid : List ℤ) (work : ℕ) (table t u : List Peak) (a b : Handed)
-    → Ends run grid work table t run′ a → Ends run grid work table u run″ b → (a ≡ b) × (run′ ≡ run″) × (t ≡ u)
+EndUnique = (run run′ run″ : Run) (grid : List ℤ) (work w v : List ℕ) (table t u : List Peak) (a b : Handed)
+    → Ends run grid work w table t run′ a → Ends run grid work v table u run″ b → (a ≡ b) × (run′ ≡ run″) × (t ≡ u)
 
 -- From Start to an accepted End.
 abbrev pub SessionHolds : Type 0
-SessionHolds = (run run′ : Run) (cells grid : List ℤ) (batches : List (List Entry)) (work n : ℕ)
-    (table table′ : List Peak)
-    → Calls run cells batches → take (takenOf run) grid ≡ cells → (e : Ends run grid work table table′ run′ (Count n))
+SessionHolds = (run run′ : Run) (cells grid : List ℤ) (batches : List (List Entry)) (n : ℕ)
+    (work work′ : List ℕ) (table table′ : List Peak)
+    → Calls run cells batches → take (takenOf run) grid ≡ cells
+    → (e : Ends run grid work work′ table table′ run′ (Count n))
     → HoldsList (run .rows) (run .threshold) cells batches (e .rest)
 
 pub record Claims : Type 0 where

@@ -31,7 +31,7 @@ use Rattle.record.specs.declared.Refusal.the-variants.{
 }
 use Rattle.record.specs.Records.{recordOf}
 use Rattle.record.specs.Refusals.{badRows}
-use Rattle.table.specs.Table.{Counted, recordsIn, tableAfter}
+use Rattle.table.specs.Table.{Counted, recordsIn, tableAfter, Unused}
 use Rattle.run.specs.declared.Run.{Run}
 use Rattle.run.specs.declared.Started.{Started}
 use Rattle.run.specs.declared.Started.the-variants as Started
@@ -101,45 +101,49 @@ endRun (Refused r) run = run
 abbrev pub heightsWith : Run → List ℤ → List ℤ → List ℤ
 heightsWith run column grid = take (takenOf run) grid ++ column
 
-pub record Columns (run : Run) (column grid grid′ : List ℤ) (work : ℕ) (table table′ : List Peak) (run′ : Run)
-    (answer : Handed) : Type 0 where
+pub record Columns (run : Run) (column grid grid′ : List ℤ) (work work′ : List ℕ) (table table′ : List Peak)
+    (run′ : Run) (answer : Handed) : Type 0 where
   pub batch : List Entry
   pub right : Batch (Plane (run .rows)) (stageOf (run .rows) (run .columns) (heightsWith run column grid))
       (stageOf (run .rows) (suc (run .columns)) (heightsWith run column grid)) (run .threshold) batch
-  pub answered : answer ≡ handedAnswer (columnCheck run (length column) (length grid) work) (length table)
+  pub answered : answer ≡ handedAnswer (columnCheck run (length column) (length grid) (length work)) (length table)
       (length batch)
   pub run-after : run′ ≡ columnRun answer run
-  pub grid-after : grid′ ≡ columnGrid (columnCheck run (length column) (length grid) work) run column grid
+  pub grid-after : grid′ ≡ columnGrid (columnCheck run (length column) (length grid) (length work)) run column grid
   pub filled : table′ ≡ tableAfter answer (map recordOf batch) table
+  pub unused : Unused answer work work′
 
-pub record Ends (run : Run) (grid : List ℤ) (work : ℕ) (table table′ : List Peak) (run′ : Run)
+pub record Ends (run : Run) (grid : List ℤ) (work work′ : List ℕ) (table table′ : List Peak) (run′ : Run)
     (answer : Handed) : Type 0 where
   pub rest : List Entry
   pub right : Rest (Plane (run .rows)) (stageOf (run .rows) (run .columns) grid) (run .threshold) rest
-  pub answered : answer ≡ handedAnswer (endCheck run (length grid) work) (length table) (length rest)
+  pub answered : answer ≡ handedAnswer (endCheck run (length grid) (length work)) (length table) (length rest)
   pub run-after : run′ ≡ endRun answer run
   pub filled : table′ ≡ tableAfter answer (map recordOf rest) table
+  pub unused : Unused answer work work′
 
 -- The same where only the room of the row is known: the records stand in the work area `left`.
-pub record FlatColumn (run : Run) (column grid grid′ : List ℤ) (work room : ℕ) (left : List ℕ) (run′ : Run)
-    (answer : Handed) : Type 0 where
+pub record FlatColumn (run : Run) (column grid grid′ : List ℤ) (work : List ℕ) (room : ℕ) (left : List ℕ)
+    (run′ : Run) (answer : Handed) : Type 0 where
   pub batch : List Entry
   pub right : Batch (Plane (run .rows)) (stageOf (run .rows) (run .columns) (heightsWith run column grid))
       (stageOf (run .rows) (suc (run .columns)) (heightsWith run column grid)) (run .threshold) batch
-  pub answered : answer ≡ handedAnswer (columnCheck run (length column) (length grid) work) room (length batch)
+  pub answered : answer ≡ handedAnswer (columnCheck run (length column) (length grid) (length work)) room (length batch)
   pub run-after : run′ ≡ columnRun answer run
-  pub grid-after : grid′ ≡ columnGrid (columnCheck run (length column) (length grid) work) run column grid
+  pub grid-after : grid′ ≡ columnGrid (columnCheck run (length column) (length grid) (length work)) run column grid
   pub counted : (n : ℕ) → answer ≡ Count n → Counted left (takenOf run + run .rows) n × (n ≤ room)
   pub records : (n : ℕ) → answer ≡ Count n → recordsIn left (takenOf run + run .rows) n ≡ map recordOf batch
+  pub unused : Unused answer work left
 
-pub record FlatEnd (run : Run) (grid : List ℤ) (work room : ℕ) (left : List ℕ) (run′ : Run)
+pub record FlatEnd (run : Run) (grid : List ℤ) (work : List ℕ) (room : ℕ) (left : List ℕ) (run′ : Run)
     (answer : Handed) : Type 0 where
   pub rest : List Entry
   pub right : Rest (Plane (run .rows)) (stageOf (run .rows) (run .columns) grid) (run .threshold) rest
-  pub answered : answer ≡ handedAnswer (endCheck run (length grid) work) room (length rest)
+  pub answered : answer ≡ handedAnswer (endCheck run (length grid) (length work)) room (length rest)
   pub run-after : run′ ≡ endRun answer run
   pub counted : (n : ℕ) → answer ≡ Count n → Counted left (takenOf run) n × (n ≤ room)
   pub records : (n : ℕ) → answer ≡ Count n → recordsIn left (takenOf run) n ≡ map recordOf rest
+  pub unused : Unused answer work left
 
 -- what is known of a call that passed its tests but the last
 pub record GoodColumn (run : Run) (offered grid work : ℕ) : Type 0 where

@@ -1,6 +1,6 @@
 // A growing run: Start, Column and End, over the flat core, and the lent row of records filled from it.
 ghost use mathlib.Core.Path.{_≡_};
-ghost use Prim.Native.Nat.{_+_, _*_, _≤_};
+ghost use Prim.Native.Nat.{_+_, _≤_};
 ghost use lib.ListN.{length};
 ghost use lib.Seq.{paste};
 ghost use Rattle.run.specs.Running.{startAnswer, columnCheck, endCheck, GoodColumn, GoodEnd, FlatColumn, FlatEnd};
@@ -140,7 +140,7 @@ fn copy(grid: &mut [i32], at: usize, column: &[i32])
 fn column_good(run: Run, column: &[i32], grid: &mut [i32], work: &mut [u8], room: usize) -> Step
     requires { ⌜ GoodColumn run (length (now column)) (length (now grid)) (length (now work)) ⌝ }
     ensures { λ r. ⌜ FlatColumn run (now (column .entry)) (now (grid .entry)) (now (grid .exit))
-        (length (now (work .entry))) room (now (work .exit)) (r .run) (r .handed) ⌝ }
+        (now (work .entry)) room (now (work .exit)) (r .run) (r .handed) ⌝ }
 {
     let rows = run.rows;
     let columns = run.columns;
@@ -174,7 +174,7 @@ fn column_good(run: Run, column: &[i32], grid: &mut [i32], work: &mut [u8], room
 // End once all tests but the last have passed.
 fn end_good(run: Run, grid: &[i32], work: &mut [u8], room: usize) -> Step
     requires { ⌜ GoodEnd run (length (now grid)) (length (now work)) ⌝ }
-    ensures { λ r. ⌜ FlatEnd run (now (grid .entry)) (length (now (work .entry))) room (now (work .exit))
+    ensures { λ r. ⌜ FlatEnd run (now (grid .entry)) (now (work .entry)) room (now (work .exit))
         (r .run) (r .handed) ⌝ }
 {
     let rows = run.rows;
@@ -206,7 +206,7 @@ fn end_good(run: Run, grid: &[i32], work: &mut [u8], room: usize) -> Step
 // Column without the table, of which only the room counts: the records are left in the work area.
 pub fn column_flat(run: Run, column: &[i32], grid: &mut [i32], work: &mut [u8], room: usize) -> Step
     ensures { λ r. ⌜ FlatColumn run (now (column .entry)) (now (grid .entry)) (now (grid .exit))
-        (length (now (work .entry))) room (now (work .exit)) (r .run) (r .handed) ⌝ }
+        (now (work .entry)) room (now (work .exit)) (r .run) (r .handed) ⌝ }
 {
     let checked = check_column(run, column.len(), grid.len(), work.len());
     match checked {
@@ -220,7 +220,7 @@ pub fn column_flat(run: Run, column: &[i32], grid: &mut [i32], work: &mut [u8], 
 
 // End without the table, of which only the room counts: the records are left in the work area.
 pub fn end_flat(run: Run, grid: &[i32], work: &mut [u8], room: usize) -> Step
-    ensures { λ r. ⌜ FlatEnd run (now (grid .entry)) (length (now (work .entry))) room (now (work .exit))
+    ensures { λ r. ⌜ FlatEnd run (now (grid .entry)) (now (work .entry)) room (now (work .exit))
         (r .run) (r .handed) ⌝ }
 {
     let checked = check_end(run, grid.len(), work.len());
@@ -249,7 +249,7 @@ pub fn column(
     table: &mut [Peak],
 ) -> Step
     ensures { λ r. ⌜ Columns run (now (column .entry)) (now (grid .entry)) (now (grid .exit))
-        (length (now (work .entry))) (now (table .entry)) (now (table .exit)) (r .run) (r .handed) ⌝ }
+        (now (work .entry)) (now (work .exit)) (now (table .entry)) (now (table .exit)) (r .run) (r .handed) ⌝ }
 {
     let room = table.len();
     let step = column_flat(run, column, grid, work, room);
@@ -263,7 +263,7 @@ pub fn column(
 
 // Ends a run.
 pub fn end(run: Run, grid: &[i32], work: &mut [u8], table: &mut [Peak]) -> Step
-    ensures { λ r. ⌜ Ends run (now (grid .entry)) (length (now (work .entry))) (now (table .entry))
+    ensures { λ r. ⌜ Ends run (now (grid .entry)) (now (work .entry)) (now (work .exit)) (now (table .entry))
         (now (table .exit)) (r .run) (r .handed) ⌝ }
 {
     let room = table.len();

@@ -1,4 +1,4 @@
--- The claim holds. The list of the definition is one (`order-unique` of `relief`), so the answers are equal, and with
+-- The claim holds. The list of the definition is one (`order-unique`), so the answers are equal, and with
 -- them the tables. Assumes nothing.
 use mathlib.Core.Path.{_≡_, sym, _∙_, ap, ap₂}
 use mathlib.Core.List.{List}
@@ -10,10 +10,11 @@ use Rattle.suite.specs.Entry.{suiteAnswer, suiteTable}
 use Rattle.suite.specs.Claims.{SuiteUnique, Claims}
 
 suite-unique : SuiteUnique
-suite-unique rows heights T work table t u a b h k =
+suite-unique rows heights T work w v table t u a b h k =
     let e : h .list ≡ k .list = order-unique (h .list) (k .list) (h .right) (k .right) in
     let q : a ≡ b = h .answered
-    ∙ ap (λ (l : List Entry). suiteAnswer rows (length heights) work (length table) (length l)) e ∙ sym (k .answered) in
+    ∙ ap (λ (l : List Entry). suiteAnswer rows (length heights) (length work) (length table) (length l)) e
+    ∙ sym (k .answered) in
     (q, h .filled ∙ ap₂ (λ (x : ℤ) (l : List Entry). suiteTable x l table) q e ∙ sym (k .filled))
 
 pub claims : Claims

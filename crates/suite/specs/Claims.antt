@@ -12,9 +12,9 @@ use Rattle.suite.specs.Entry.{SuiteLists}
 -- answers allowed by it are shown equal."
 abbrev pub SuiteUnique : Type 0
 SuiteUnique =
-    (rows : ℕ) (heights : List ℕ) (T work : ℕ) (table t u : List ℕ) (a b : ℤ)
-    → SuiteLists rows heights T work table t a
-    → SuiteLists rows heights T work table u b
+    (rows : ℕ) (heights : List ℕ) (T : ℕ) (work w v table t u : List ℕ) (a b : ℤ)
+    → SuiteLists rows heights T work w table t a
+    → SuiteLists rows heights T work v table u b
     → (a ≡ b) × (t ≡ u)
 
 pub record Claims : Type 0 where

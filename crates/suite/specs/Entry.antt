@@ -7,7 +7,7 @@
 use mathlib.Core.Path.{_≡_}
 use mathlib.Core.Bool.{not, cond}
 use mathlib.Core.List.{List, [], _∷_, _++_, map}
-use Prim.Native.Nat.{ℕ, zero, suc, _*_, _/_, _%_}
+use Prim.Native.Nat.{ℕ, zero, suc, _*_, _/_, _%_, _<_}
 use lib.Dec.{eqb, ltb}
 use lib.IntN.{ℤ, pos, negsuc}
 use lib.ListN.{length, drop}
@@ -46,9 +46,12 @@ suiteTable (pos n) list table = bytesOf (recordsOf (map recordOf list)) ++ drop 
 suiteTable (negsuc n) list table = table
 
 -- The list of the definition is there for every grid and is one (`list-exists`, `order-unique` of `theorems`). The
--- heights are lent to be read, and the work area's contents are left open (docs/EXCEPTIONS.md).
-pub record SuiteLists (rows : ℕ) (heights : List ℕ) (T work : ℕ) (table table′ : List ℕ) (answer : ℤ) : Type 0 where
+-- heights are lent to be read. "At a refusal that stands after 4 in its call's order, the work area has been used";
+-- what it holds then, and on success, is left open (docs/EXCEPTIONS.md).
+pub record SuiteLists (rows : ℕ) (heights : List ℕ) (T : ℕ) (work work′ table table′ : List ℕ) (answer : ℤ)
+    : Type 0 where
   pub list : List Entry
   pub right : ListOf (Plane rows) (levels (heightsOf heights (length heights / 4))) T list
-  pub answered : answer ≡ suiteAnswer rows (length heights) work (length table) (length list)
+  pub answered : answer ≡ suiteAnswer rows (length heights) (length work) (length table) (length list)
   pub filled : table′ ≡ suiteTable answer list table
+  pub unused : (n : ℕ) → answer ≡ negsuc n → n < 4 → work′ ≡ work

@@ -41,7 +41,7 @@ pub extern "C" fn mayexoton_list(
     work: &mut [u8],
     table: &mut [u8],
 ) -> i64
-    ensures { λ r. ⌜ SuiteLists rows (now (heights .entry)) threshold (length (now (work .entry)))
+    ensures { λ r. ⌜ SuiteLists rows (now (heights .entry)) threshold (now (work .entry)) (now (work .exit))
         (now (table .entry)) (now (table .exit)) r ⌝ }
 {
     if rows == 0 {

@@ -2,6 +2,7 @@
 --     counted-none       no record of no cell can be read
 --     handed-fillable    what the call leaves may be filled into the row; at a refusal, no record
 --     handed-filled      the row that is filled so is that after the answer
+--     unused-*           the work area at a refusal before its use, at 5, and on success
 -- Assumes nothing.
 use mathlib.Core.Path.{_≡_, refl, sym, _∙_, ap, subst}
 use mathlib.Core.List.{List, _++_}
@@ -11,7 +12,9 @@ use lib.ListN.{length, drop}
 use Rattle.record.specs.declared.Peak.{Peak}
 use Rattle.record.specs.declared.Handed.{Handed}
 use Rattle.record.specs.declared.Handed.the-variants.{Count, Refused}
-use Rattle.table.specs.Table.{Counted, recordsIn, Fillable, countIn, cellsIn, tableAfter}
+use Rattle.record.specs.declared.Refusal.{Refusal}
+use Rattle.record.specs.declared.Refusal.the-variants.{Table}
+use Rattle.table.specs.Table.{Counted, recordsIn, Fillable, countIn, cellsIn, tableAfter, Unused}
 use Rattle.table.proofs.Laws.{filled-start}
 
 pub counted-none : (s : List ℕ) → Counted s 0 0
@@ -39,3 +42,21 @@ module _ (table : List Peak) (left : List ℕ) {cells m : ℕ} where
   handed-filled (Count n) e h =
       ap (λ (l : List Peak). l ++ drop n table) (ap (λ (k : ℕ). recordsIn left k n) (e n refl) ∙ h n refl)
   handed-filled (Refused r) e h = filled-start table left 0
+
+-- ---- the work area
+
+pub refused-count : {r : Refusal} {n : ℕ} → Refused r ≡ Count n → ⊥
+refused-count e = let z : _≡_ {A = ℕ} 0 1 = cc in omega arith
+
+refused-same : {r r′ : Refusal} → Refused r ≡ Refused r′ → r ≡ r′
+refused-same e = cc
+
+module _ {work work′ : List ℕ} where
+  pub unused-early : {a : Handed} → work′ ≡ work → Unused a work work′
+  unused-early same r e n = same
+
+  pub unused-short : {needed : ℕ} → Unused (Refused (Table needed)) work work′
+  unused-short {needed} r e n = absurd (n needed (sym (refused-same e)))
+
+  pub unused-count : {n : ℕ} → Unused (Count n) work work′
+  unused-count r e n = absurd (refused-count (sym e))

@@ -6,7 +6,9 @@
 --     Counted s n count       so many listed cells stand in the order quarter, each with a pass cell
 --     countIn a, cellsIn a n  how many records an answer has, and how many of n cells it is read from
 --     tableAfter a rs t       the row t after an answer that hands out the records rs
+--     Unused a w w′           the work area w is w′ after an answer that comes before its use
 -- Assumes nothing.
+use mathlib.Core.Path.{_≡_}
 use mathlib.Core.Bool.{true, false}
 use mathlib.Core.List.{List, [], _∷_, _++_}
 use Prim.Native.Nat.{ℕ, zero, suc, _≤_, _<_}
@@ -17,6 +19,8 @@ use Rattle.words.specs.Area.{Area, levelIn, orderIn, parentIn, passIn, cellIn}
 use Rattle.record.specs.declared.Peak.{Peak}
 use Rattle.record.specs.declared.Handed.{Handed}
 use Rattle.record.specs.declared.Handed.the-variants.{Count, Refused}
+use Rattle.record.specs.declared.Refusal.{Refusal}
+use Rattle.record.specs.declared.Refusal.the-variants.{Table}
 use Rattle.record.specs.Records.{withKey, withoutKey}
 
 -- What is asked of one cell, so that its record can be read.
@@ -60,3 +64,9 @@ cellsIn (Refused r) cells = 0
 abbrev pub tableAfter : Handed → List Peak → List Peak → List Peak
 tableAfter (Count n) records table = records ++ drop n table
 tableAfter (Refused r) records table = table
+
+-- "A refusal [..] writes nothing"; "At a refusal that stands after 4 in its call's order, the work area has been used":
+-- at 5. What it holds then, and on success, is left open (docs/EXCEPTIONS.md).
+abbrev pub Unused : Handed → List ℕ → List ℕ → Type 0
+Unused answer work work′ =
+    (r : Refusal) → answer ≡ Refused r → ((needed : ℕ) → r ≡ Table needed → ⊥) → work′ ≡ work

@@ -12,16 +12,16 @@ use Rattle.list.proofs.flat.Statement.{statement}
 use Rattle.list.proofs.flat.Tie as tie
 
 returns : tie.Need-returns
-returns c = flat-no-rows (c .if1 .taken)
+returns c = flat-no-rows refl (c .if1 .taken)
 
 returns-2 : tie.Need-returns-2
-returns-2 c = flat-many-rows (c .before .if1 .left) (c .if2 .taken)
+returns-2 c = flat-many-rows (c .before .if1 .left) refl (c .if2 .taken)
 
 returns-3 : tie.Need-returns-3
 returns-3 c =
     let at-index = c .before in
     let heights = now (at-index .before .before .before .before .args .heights) in
-    flat-length (at-index .before .before .if1 .left) (at-index .before .if2 .left)
+    flat-length (at-index .before .before .if1 .left) (at-index .before .if2 .left) refl
     (λ e. c .if3 .taken (ap (λ (r : ℕ). length heights % r) (at-index .index .ensures) ∙ e))
 
 -- the rows divide the cells
@@ -34,13 +34,13 @@ divided c =
 returns-4 : tie.Need-returns-4
 returns-4 c =
     let at-rows = c .before .before .before in
-    flat-cells (at-rows .before .if1 .left) (at-rows .if2 .left) (divided (c .before)) (c .if4 .taken)
+    flat-cells (at-rows .before .if1 .left) (at-rows .if2 .left) (divided (c .before)) refl (c .if4 .taken)
 
 returns-5 : tie.Need-returns-5
 returns-5 c =
     let at-rows = c .before .before .before .before in
     flat-work (at-rows .before .if1 .left) (at-rows .if2 .left) (divided (c .before .before)) (c .before .if4 .left)
-    (c .if5 .taken)
+    refl (c .if5 .taken)
 
 returns-6 : tie.Need-returns-6
 returns-6 c =

@@ -1,5 +1,5 @@
 -- `column_flat`: a call that fails a test changes nothing, and one that passes them is `column_good`. Assumes nothing.
-use mathlib.Core.Path.{sym, _∙_}
+use mathlib.Core.Path.{refl, sym, _∙_}
 use lib.ListN.{length}
 use denote.Ref.{now}
 use Rattle.run.proofs.Columns.{column-passed, column-refused}
@@ -20,7 +20,7 @@ returns c =
     let at-check-column = c .before .before .before in
     let s = at-check-column .before .before in
     let a = s .args in
-    column-refused (a .run) (now (a .column)) (now (a .grid)) (length (now (a .work))) (a .room) _
+    column-refused (a .run) (now (a .column)) (now (a .grid)) (now (a .work)) (a .room) _ refl
     (sym (c .before .checked .given .1) ∙ at-check-column .check-column .ensures)
 
 pub column-flat-spec : {M : Type 1} → statement M

@@ -3,7 +3,6 @@
 use mathlib.Core.Path.{refl}
 use mathlib.Core.List.{[]}
 use native.Mathlib.Omega.{arith}
-use lib.ListN.{length}
 use denote.Ref.{now}
 use Rattle.run.proofs.Coded.{
   column-sum,
@@ -23,7 +22,7 @@ mul-taken c =
     let s = c .before .before .before in
     let a = s .args in
     let l =
-    column-sum (a .run) (now (a .column)) (now (a .grid)) (length (now (a .work))) (a .room) [] (s .pre)
+    column-sum (a .run) (now (a .column)) (now (a .grid)) (now (a .work)) (a .room) [] (s .pre)
     (c .before .index .ensures) (c .index2 .ensures) in
     record { fits = omega arith }
 
@@ -32,7 +31,7 @@ add-n c =
     let s = c .before .before .before in
     let a = s .args in
     let l =
-    column-sum (a .run) (now (a .column)) (now (a .grid)) (length (now (a .work))) (a .room) [] (s .pre)
+    column-sum (a .run) (now (a .column)) (now (a .grid)) (now (a .work)) (a .room) [] (s .pre)
     (c .before .index .ensures) (c .index2 .ensures) in
     record { fits = omega arith }
 
@@ -40,7 +39,7 @@ copy-requires : tie.Need-copy-requires
 copy-requires c κs =
     let s = c .before .before .before .before in
     let a = s .args in
-    column-copying (a .run) (now (a .column)) (now (a .grid)) (length (now (a .work))) (a .room) [] (s .pre)
+    column-copying (a .run) (now (a .column)) (now (a .grid)) (now (a .work)) (a .room) [] (s .pre)
     (c .before .before .index .ensures) (c .before .index2 .ensures)
 
 load-requires : tie.Need-load-requires
@@ -50,7 +49,7 @@ load-requires c κs =
     let at-index = at-index2 .before in
     let s = at-index .before .before in
     let a = s .args in
-    column-loading (a .run) (now (a .column)) (now (a .grid)) (length (now (a .work))) (a .room) [] (s .pre)
+    column-loading (a .run) (now (a .column)) (now (a .grid)) (now (a .work)) (a .room) [] (s .pre)
     (at-index .index .ensures) (at-index2 .index2 .ensures) (at-copy .copy .ensures) refl
 
 closing-requires : tie.Need-closing-requires
@@ -60,7 +59,7 @@ closing-requires c κs =
     let at-index = at-index2 .before in
     let s = at-index .before .before in
     let a = s .args in
-    column-surveying (a .run) (now (a .column)) (now (a .grid)) (length (now (a .work))) (a .room) [] (s .pre)
+    column-surveying (a .run) (now (a .column)) (now (a .grid)) (now (a .work)) (a .room) [] (s .pre)
     (at-index .index .ensures) (at-index2 .index2 .ensures) refl (at-load .load .ensures)
 
 returns : tie.Need-returns
@@ -72,7 +71,7 @@ returns c =
     let at-index = at-index2 .before in
     let s = at-index .before .before in
     let a = s .args in
-    code-short (a .run) (now (a .column)) (now (a .grid)) (length (now (a .work))) (a .room) _ (s .pre)
+    code-short (a .run) (now (a .column)) (now (a .grid)) (now (a .work)) (a .room) _ (s .pre)
     (at-index .index .ensures) (at-index2 .index2 .ensures) (at-copy .copy .ensures) (at-load .load .ensures)
     (at-closing .closing .ensures) (c .if1 .taken)
 
@@ -85,7 +84,7 @@ add-t28 c =
     let a = s .args in
     record {
       fits =
-          columns-fit (a .run) (now (a .column)) (now (a .grid)) (length (now (a .work))) (a .room) [] (s .pre)
+          columns-fit (a .run) (now (a .column)) (now (a .grid)) (now (a .work)) (a .room) [] (s .pre)
           (at-index .index .ensures) (at-index2 .index2 .ensures);
     }
 
@@ -98,7 +97,7 @@ returns-2 c =
     let at-index = at-index2 .before in
     let s = at-index .before .before in
     let a = s .args in
-    code-count (a .run) (now (a .column)) (now (a .grid)) (length (now (a .work))) (a .room) _ (s .pre)
+    code-count (a .run) (now (a .column)) (now (a .grid)) (now (a .work)) (a .room) _ (s .pre)
     (at-index .index .ensures) (at-index2 .index2 .ensures) (at-copy .copy .ensures) (at-load .load .ensures)
     (at-closing .closing .ensures) (c .if1 .left)
 

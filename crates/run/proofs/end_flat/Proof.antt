@@ -1,6 +1,6 @@
 -- `end_flat`: a call that fails a test changes nothing, and one that passes them is `end_good`. Assumes nothing.
 use mathlib.Core.List.{[]}
-use mathlib.Core.Path.{sym, _∙_}
+use mathlib.Core.Path.{refl, sym, _∙_}
 use lib.ListN.{length}
 use denote.Ref.{now}
 use Rattle.run.proofs.Columns.{end-passed, end-refused}
@@ -21,7 +21,7 @@ returns c =
     let at-check-end = c .before .before .before in
     let s = at-check-end .before .before in
     let a = s .args in
-    end-refused (a .run) [] (now (a .grid)) (length (now (a .work))) (a .room) _
+    end-refused (a .run) [] (now (a .grid)) (now (a .work)) (a .room) _ refl
     (sym (c .before .checked .given .1) ∙ at-check-end .check-end .ensures)
 
 pub end-flat-spec : {M : Type 1} → statement M

@@ -3,7 +3,6 @@
 use mathlib.Core.Path.{refl}
 use mathlib.Core.List.{[]}
 use native.Mathlib.Omega.{arith}
-use lib.ListN.{length}
 use denote.Ref.{now}
 use Rattle.run.proofs.Coded.{end-sum, end-loading, end-surveying, end-code-short, end-code-count}
 use borrow.Author.Needs.{needs}
@@ -15,7 +14,7 @@ mul-taken c =
     let s = c .before .before .before in
     let a = s .args in
     let l =
-    end-sum (a .run) (now (a .grid)) (length (now (a .work))) (a .room) [] (s .pre)
+    end-sum (a .run) (now (a .grid)) (now (a .work)) (a .room) [] (s .pre)
     (c .before .index .ensures) (c .index2 .ensures) in
     record { fits = omega arith }
 
@@ -23,7 +22,7 @@ load-requires : tie.Need-load-requires
 load-requires c κs =
     let s = c .before .before .before .before in
     let a = s .args in
-    end-loading (a .run) (now (a .grid)) (length (now (a .work))) (a .room) [] (s .pre)
+    end-loading (a .run) (now (a .grid)) (now (a .work)) (a .room) [] (s .pre)
     (c .before .before .index .ensures) (c .before .index2 .ensures) refl
 
 rest-requires : tie.Need-rest-requires
@@ -33,7 +32,7 @@ rest-requires c κs =
     let at-index = at-index2 .before in
     let s = at-index .before .before in
     let a = s .args in
-    end-surveying (a .run) (now (a .grid)) (length (now (a .work))) (a .room) [] (s .pre)
+    end-surveying (a .run) (now (a .grid)) (now (a .work)) (a .room) [] (s .pre)
     (at-index .index .ensures) (at-index2 .index2 .ensures) refl (at-load .load .ensures)
 
 returns : tie.Need-returns
@@ -44,7 +43,7 @@ returns c =
     let at-index = at-index2 .before in
     let s = at-index .before .before in
     let a = s .args in
-    end-code-short (a .run) (now (a .grid)) (length (now (a .work))) (a .room) _ (s .pre)
+    end-code-short (a .run) (now (a .grid)) (now (a .work)) (a .room) _ (s .pre)
     (at-index .index .ensures) (at-index2 .index2 .ensures) (at-load .load .ensures) (at-rest .rest .ensures)
     (c .if1 .taken)
 
@@ -56,7 +55,7 @@ returns-2 c =
     let at-index = at-index2 .before in
     let s = at-index .before .before in
     let a = s .args in
-    end-code-count (a .run) (now (a .grid)) (length (now (a .work))) (a .room) _ (s .pre)
+    end-code-count (a .run) (now (a .grid)) (now (a .work)) (a .room) _ (s .pre)
     (at-index .index .ensures) (at-index2 .index2 .ensures) (at-load .load .ensures) (at-rest .rest .ensures)
     (c .if1 .left)
 

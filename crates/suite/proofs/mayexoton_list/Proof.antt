@@ -17,12 +17,12 @@ use Rattle.suite.proofs.mayexoton_list.Tie as tie
 returns : tie.Need-returns
 returns c =
     let a = c .before .before .before .before .args in
-    suite-no-rows (a .rows) (now (a .heights)) (a .threshold) (length (now (a .work))) (now (a .table)) (c .if1 .taken)
+    suite-no-rows (a .rows) (now (a .heights)) (a .threshold) (now (a .work)) (now (a .table)) (c .if1 .taken)
 
 returns-2 : tie.Need-returns-2
 returns-2 c =
     let a = c .before .before .before .before .before .args in
-    suite-many-rows (a .rows) (now (a .heights)) (a .threshold) (length (now (a .work))) (now (a .table))
+    suite-many-rows (a .rows) (now (a .heights)) (a .threshold) (now (a .work)) (now (a .table))
     (c .before .if1 .left) (c .if2 .taken)
 
 returns-3 : tie.Need-returns-3
@@ -30,7 +30,7 @@ returns-3 c =
     let at-rows = c .before .before in
     let a = at-rows .before .before .before .before .before .args in
     let e = ap (λ (r : ℕ). length (now (a .heights)) % (4 * r)) (c .before .index .ensures) in
-    suite-length (a .rows) (now (a .heights)) (a .threshold) (length (now (a .work))) (now (a .table))
+    suite-length (a .rows) (now (a .heights)) (a .threshold) (now (a .work)) (now (a .table))
     (at-rows .before .if1 .left) (at-rows .if2 .left) (λ q. c .if3 .taken (e ∙ q))
 
 -- the test on the length, in terms of the parameters
@@ -46,14 +46,14 @@ returns-4 : tie.Need-returns-4
 returns-4 c =
     let at-rows = c .before .before .before in
     let a = at-rows .before .before .before .before .before .args in
-    suite-cells (a .rows) (now (a .heights)) (a .threshold) (length (now (a .work))) (now (a .table))
+    suite-cells (a .rows) (now (a .heights)) (a .threshold) (now (a .work)) (now (a .table))
     (at-rows .before .if1 .left) (at-rows .if2 .left) (divided (c .before)) (c .if4 .taken)
 
 returns-5 : tie.Need-returns-5
 returns-5 c =
     let at-rows = c .before .before .before .before in
     let a = at-rows .before .before .before .before .before .args in
-    suite-work (a .rows) (now (a .heights)) (a .threshold) (length (now (a .work))) (now (a .table))
+    suite-work (a .rows) (now (a .heights)) (a .threshold) (now (a .work)) (now (a .table))
     (at-rows .before .if1 .left) (at-rows .if2 .left) (divided (c .before .before)) (c .before .if4 .left)
     (c .if5 .taken)
 

@@ -10,7 +10,12 @@ use mir.Val.{SFits}
 use mir.ValLaws.{toZ-ofZ}
 use Rattle.relief.specs.Heights.{levelOf}
 use Rattle.layout.proofs.soundness.is_sound.Proof.Lemmas.{refuted, blank-refutes, other-refutes, half-refutes}
-use Rattle.layout.proofs.soundness.is_sound.Proof.Lemmas.{above-refutes, outside-refutes, keyless-tells, keyed-tells}
+use Rattle.layout.proofs.soundness.is_sound.Proof.Lemmas.{
+  above-refutes,
+  outside-refutes,
+  keyless-tells,
+  keyed-tells,
+}
 use Rattle.layout.proofs.soundness.is_sound.Statement.{statement}
 use Rattle.layout.proofs.soundness.is_sound.Tie as tie
 
