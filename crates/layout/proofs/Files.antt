@@ -20,9 +20,9 @@ use lib.Seq.{getD-append-add, ext-getD}
 use mir.Syntax.{w32}
 use mir.Val.{SFits}
 use Rattle.relief.specs.Heights.{BLANK}
+use Rattle.record.specs.declared.Peak.{Peak}
 use Rattle.words.specs.Words.{wordAt}
 use Rattle.words.proofs.Laws.{word-below}
-use Rattle.record.specs.declared.Peak.{Peak}
 use Rattle.layout.specs.Layout.{bitsOf, signedOf, wordOf, totalOf, headerOf, recordOf, recordsOf}
 use Rattle.layout.specs.Layout.{numbersOf, fileOf, rowsIn, columnsIn, peaksIn, cellsIn, heightsIn}
 use Rattle.layout.specs.Layout.{recordIn, recordsIn}

@@ -16,10 +16,10 @@ use native.Mathlib.Omega.{arith}
 use lib.ListN.{length, getD, take, drop, length-append, length-drop, take-append-drop, List·getD-append}
 use lib.Seq.{take-at, drop-drop, drop-append-add, getD-append-add, getD-take, getD-drop, ext-getD, length-take-le}
 use lib.Seq.{take-suc}
-use Rattle.words.specs.Words.{wordAt, Stored}
 use Rattle.relief.specs.Heights.{BLANK}
 use Rattle.record.specs.declared.Peak.{Peak}
 use Rattle.record.specs.Records.{withoutKey}
+use Rattle.words.specs.Words.{wordAt, Stored}
 use Rattle.layout.specs.Layout.{wordOf, bytesOf, recordOf, recordsOf, totalOf}
 use Rattle.layout.specs.Sound.{recordAt}
 use Rattle.layout.specs.Steps.{over, laid}

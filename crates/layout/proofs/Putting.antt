@@ -13,10 +13,10 @@ use native.Mathlib.Numerals.{add-one}
 use native.Mathlib.Omega.{arith}
 use lib.ListN.{length, drop, length-append, length-drop}
 use lib.Seq.{sets, sets-eq, take-at, drop-append-add, drop-drop}
-use Rattle.words.specs.Area.{orderIn}
 use Rattle.record.specs.declared.Peak.{Peak}
-use Rattle.layout.specs.Layout.{bitsOf, wordOf, bytesOf, recordOf, recordsOf}
+use Rattle.words.specs.Area.{orderIn}
 use Rattle.table.specs.Table.{peakIn, recordsIn}
+use Rattle.layout.specs.Layout.{bitsOf, wordOf, bytesOf, recordOf, recordsOf}
 use Rattle.layout.proofs.Bytes.{sets-word}
 
 -- ---- one record

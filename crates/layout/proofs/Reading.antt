@@ -17,11 +17,11 @@ use borrow.Author.Tests.{lt-ltb, le-ltb, eq-eqb, ne-eqb, ltb-false, eqb-true, no
 use lib.Dec.{eqb, ltb}
 use lib.ListN.{length}
 use Rattle.relief.proofs.Deciding.{or-false}
-use Rattle.words.specs.Words.{wordAt}
 use Rattle.record.specs.declared.Refusal.{Refusal}
 use Rattle.record.specs.declared.Refusal.the-variants.{Rows, Cells, Table, FileLength, FileCounts, Unsound, Room}
 use Rattle.record.specs.Refusals.{badRows}
 use Rattle.record.proofs.Refusals.{rows-none, rows-many, rows-right, rows-known}
+use Rattle.words.specs.Words.{wordAt}
 use Rattle.layout.specs.declared.ReadBack.{ReadBack}
 use Rattle.layout.specs.declared.ReadBack.the-variants.{Run, Refused}
 use Rattle.layout.specs.Layout.{totalOf, rowsIn, columnsIn, peaksIn, cellsIn, heightsIn, recordsIn}

@@ -23,8 +23,8 @@ use mir.Syntax.{w32}
 use mir.Val.{SFits, toZ, ofZ}
 use mir.ValLaws.{toZ-ofZ}
 use Rattle.relief.specs.Heights.{BLANK}
-use Rattle.words.specs.Words.{wordAt}
 use Rattle.record.specs.declared.Peak.{Peak}
+use Rattle.words.specs.Words.{wordAt}
 use Rattle.layout.specs.Layout.{signedOf, wordOf, bytesOf, recordOf, heightsIn, recordIn, recordsIn}
 use Rattle.layout.specs.Sound.{recordAt}
 use Rattle.layout.specs.Steps.{filled}

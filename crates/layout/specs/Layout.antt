@@ -16,8 +16,8 @@ use Prim.Native.Nat.{ℕ, zero, suc, _+_, _-_, _*_, _/_, _%_}
 use lib.Dec.{ltb}
 use lib.IntN.{ℤ, pos, negsuc}
 use lib.ListN.{length}
-use Rattle.words.specs.Words.{wordAt}
 use Rattle.record.specs.declared.Peak.{Peak}
+use Rattle.words.specs.Words.{wordAt}
 
 -- ---- numbers
 

@@ -10,9 +10,9 @@ use mathlib.Core.Path.{_≡_}
 use Prim.Native.Nat.{ℕ, _+_, _*_}
 use lib.Dec.{eqb, ltb}
 use lib.ListN.{length}
-use Rattle.words.specs.Words.{wordAt}
 use Rattle.record.specs.declared.Refusal.the-variants.{Rows, Cells, Table, FileLength, FileCounts, Unsound, Room}
 use Rattle.record.specs.Refusals.{badRows}
+use Rattle.words.specs.Words.{wordAt}
 use Rattle.layout.specs.declared.ReadBack.{ReadBack}
 use Rattle.layout.specs.declared.ReadBack.the-variants.{Run, Refused}
 use Rattle.layout.specs.Layout.{totalOf, rowsIn, columnsIn, peaksIn, cellsIn, heightsIn, recordsIn}

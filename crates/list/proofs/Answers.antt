@@ -2,7 +2,8 @@
 --     flat-*             the promise of `flat` at each return; the list is there whatever is refused
 --     flat-fillable      what `flat` leaves may be filled into the row; after a refusal no record is
 --     flat-lists         the row that is filled so keeps the promise of the whole call
---     list-unique        two answers that the promise allows are equal, and so are two rows
+--     list-unique        two answers that the promise allows are equal, and so are two rows, and two work areas where
+--                        they are not used
 -- Assumes nothing.
 use mathlib.Core.Path.{_≡_, refl, sym, _∙_, ap, ap₂, subst}
 use mathlib.Core.List.{List, _++_, map}
@@ -26,14 +27,16 @@ use Rattle.record.specs.Records.{recordOf}
 use Rattle.record.proofs.Refusals.{rows-none, rows-many, rows-right}
 use Rattle.words.specs.Area.{levelIn}
 use Rattle.sweep.specs.Taking.{cut}
-use Rattle.table.specs.Table.{Counted, recordsIn, Fillable, countIn, cellsIn, tableAfter}
+use Rattle.table.specs.Table.{Counted, recordsIn, Fillable, countIn, cellsIn, tableAfter, Unused}
 use Rattle.table.proofs.Handing.{
   handed-fillable,
   handed-filled,
   refused-count,
+  count-same,
   unused-early,
   unused-short,
   unused-count,
+  unused-unique,
 }
 use Rattle.survey.specs.Answers.{entriesIn, Loaded, Answered}
 use Rattle.survey.proofs.Recording.{places-record, places-length}
@@ -53,9 +56,6 @@ list-length : (left : List ℕ) (n k : ℕ) → length (entriesIn left n k) ≡ 
 list-length left n k = places-length _ k
 
 -- ---- the answers
-
-count-same : {m n : ℕ} → Count m ≡ Count n → m ≡ n
-count-same e = cc
 
 -- what is answered once the list is known, of k entries
 module _ (rows cells work room : ℕ) (some : rows ≡ 0 → ⊥) (few : rows ≤ 1024) (whole : cells % rows ≡ 0)
@@ -186,11 +186,12 @@ module _ {rows : ℕ} {heights : List ℤ} {T : ℕ} {work : List ℕ} (table : 
 -- ---- one answer
 
 pub list-unique : {rows : ℕ} {heights : List ℤ} {T : ℕ} {work w v : List ℕ} {table t u : List Peak} {a b : Handed}
-    → Lists rows heights T work w table t a → Lists rows heights T work v table u b → (a ≡ b) × (t ≡ u)
+    → Lists rows heights T work w table t a → Lists rows heights T work v table u b
+    → (a ≡ b) × (t ≡ u) × Unused a w v
 list-unique {rows} {heights} {T} {work} {w} {v} {table} {t} {u} {a} {b} h k =
     let e : h .list ≡ k .list = order-unique (h .list) (k .list) (h .right) (k .right) in
     let q : a ≡ b = h .answered
     ∙ ap (λ (l : List Entry). listAnswer rows (length heights) (length work) (length table) (length l)) e
     ∙ sym (k .answered) in
     let f = ap₂ (λ (x : Handed) (l : List Entry). tableAfter x (map recordOf l) table) q e in
-    (q, h .filled ∙ f ∙ sym (k .filled))
+    (q, h .filled ∙ f ∙ sym (k .filled), unused-unique q (h .unused) (k .unused))

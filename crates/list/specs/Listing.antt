@@ -1,6 +1,7 @@
 -- The whole-grid call: sections "What comes back" and "Peak, outranking ground, key height, pass" of document 01.
 --     listAnswer        the answer, by the tests in the paper's order
---     Lists             the promise of the call: it determines the answer and the row on all inputs
+--     Lists             the promise of the call: it determines the answer and the row on all inputs, and the work area
+--                       where it is not used
 --     Flat              the promise of the call without the row: what is left in the work area
 -- Assumes nothing.
 use mathlib.Core.Path.{_≡_}
@@ -14,12 +15,12 @@ use Rattle.relief.specs.Heights.{levels}
 use Rattle.relief.specs.Peaks.{Entry, ListOf}
 use Rattle.relief.specs.Plane.{Plane}
 use Rattle.record.specs.declared.Peak.{Peak}
+use Rattle.record.specs.declared.Handed.{Handed}
+use Rattle.record.specs.declared.Handed.the-variants.{Count, Refused}
 use Rattle.record.specs.declared.Refusal.the-variants.{Rows, Length, Cells, Work, Table}
 use Rattle.record.specs.Records.{recordOf}
 use Rattle.record.specs.Refusals.{badRows}
 use Rattle.table.specs.Table.{Counted, recordsIn, tableAfter, Unused}
-use Rattle.record.specs.declared.Handed.{Handed}
-use Rattle.record.specs.declared.Handed.the-variants.{Count, Refused}
 
 -- "List: 1, 2, 3, 4, 5." `work` is in bytes, 16 for "4 numbers of 32 bits per cell". `room` and `needed` count records.
 unfoldable pub listAnswer : ℕ → ℕ → ℕ → ℕ → ℕ → Handed

@@ -13,9 +13,9 @@ use Rattle.record.specs.declared.Peak.{Peak}
 use Rattle.layout.specs.declared.Written.{Written}
 use Rattle.layout.specs.Sound.{FirstUnsound}
 use Rattle.layout.specs.Steps.{Few, GridPut, Puttable, laid, putOf}
-use Rattle.runfile.specs.Promises.{Writes}
 use Rattle.layout.proofs.Sounding.{first-few}
 use Rattle.layout.proofs.Laying.{grid-puttable, grid-written}
+use Rattle.runfile.specs.Promises.{Writes}
 use Rattle.meter.specs.Metered.{peaksOf}
 use Rattle.meter.proofs.Peaks.{peaks-length}
 

@@ -16,18 +16,18 @@ use lib.ListN.{length, drop}
 use Rattle.relief.specs.Peaks.{Entry}
 use Rattle.relief.specs.Runs.{Batch}
 use Rattle.relief.specs.Plane.{Plane, stageOf}
-use Rattle.words.specs.Words.{wordAt}
 use Rattle.record.specs.declared.Peak.{Peak}
 use Rattle.record.specs.Records.{recordOf}
-use Rattle.run.specs.declared.Run.{Run}
 use Rattle.record.specs.declared.Handed.{Handed}
 use Rattle.record.specs.declared.Handed.the-variants.{Count, Refused}
+use Rattle.words.specs.Words.{wordAt}
+use Rattle.run.specs.declared.Run.{Run}
 use Rattle.run.specs.Running.{columnCheck, handedAnswer, columnGrid, heightsWith}
 use Rattle.layout.specs.declared.Written.{Written}
 use Rattle.layout.specs.declared.ReadBack.{ReadBack}
 use Rattle.layout.specs.Layout.{signedOf, bytesOf, recordsOf, recordsIn, heightsIn, cellsIn, peaksIn}
-use Rattle.runfile.specs.Promises.{Writes}
 use Rattle.layout.specs.Reading.{Judges, lentOf}
+use Rattle.runfile.specs.Promises.{Writes}
 use Rattle.meter.specs.Numbers.{handedNumber, writtenNumber, readNumber}
 
 -- ---- Column

@@ -16,9 +16,9 @@ use lib.Seq.{paste, length-paste}
 use Rattle.relief.specs.Runs.{Closing, Remaining}
 use Rattle.relief.specs.Plane.{Plane}
 use Rattle.record.specs.declared.Refusal.the-variants.{Table}
+use Rattle.record.specs.declared.Handed.the-variants.{Count, Refused}
 use Rattle.survey.specs.Answers.{Loading, Loaded, Surveying, Answered, stageIn}
 use Rattle.run.specs.declared.Run.{Run}
-use Rattle.record.specs.declared.Handed.the-variants.{Count, Refused}
 use Rattle.run.specs.Running.{takenOf, GoodColumn, GoodEnd, FlatColumn, FlatEnd}
 use Rattle.run.proofs.Columns.{column-short, column-count, end-short, end-count}
 

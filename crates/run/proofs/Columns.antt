@@ -28,15 +28,15 @@ use Rattle.record.specs.declared.Refusal.the-variants.{Table}
 use Rattle.record.specs.Records.{recordOf}
 use Rattle.record.specs.Refusals.{badRows}
 use Rattle.record.proofs.Refusals.{rows-known}
+use Rattle.record.specs.declared.Handed.the-variants.{Count, Refused}
 use Rattle.words.specs.Area.{levelIn}
 use Rattle.sweep.specs.Taking.{cut}
 use Rattle.sweep.proofs.Work.{cut-below, cut-behind}
 use Rattle.table.specs.Table.{Counted, recordsIn}
-use Rattle.table.proofs.Handing.{refused-count, unused-early, unused-short, unused-count}
+use Rattle.table.proofs.Handing.{refused-count, count-same, unused-early, unused-short, unused-count}
 use Rattle.survey.specs.Answers.{entriesIn, Loaded, Answered, stageIn}
 use Rattle.survey.proofs.Recording.{places-record, places-length}
 use Rattle.run.specs.declared.Run.{Run}
-use Rattle.record.specs.declared.Handed.the-variants.{Count, Refused}
 use Rattle.run.specs.declared.Checked.{Checked}
 use Rattle.run.specs.declared.Checked.the-variants.{Good, Bad}
 use Rattle.run.specs.Running.{
@@ -135,9 +135,6 @@ stage-is rows columns whole h l e = λ i. record {
 }
 
 -- ---- the answers
-
-count-same : {m n : ℕ} → Count m ≡ Count n → m ≡ n
-count-same e = cc
 
 answer-bad : {c : Checked} {r : Refusal} (room k : ℕ) → Bad r ≡ c → Refused r ≡ handedAnswer c room k
 answer-bad room k e = ap (λ (c : Checked). handedAnswer c room k) e

@@ -18,17 +18,18 @@ use Rattle.relief.specs.Heights.{levels}
 use Rattle.relief.specs.Peaks.{Entry, ListOf}
 use Rattle.relief.specs.Runs.{Stage, Batch, Rest}
 use Rattle.relief.specs.Plane.{Plane, stageOf}
-use Rattle.theorems.specs.Claims.{Touching}
 use Rattle.relief.proofs.Deciding.{split, test, below-suc}
 use Rattle.relief.proofs.Listing.{order-unique}
+use Rattle.theorems.specs.Claims.{Touching}
 use Rattle.theorems.proofs.Claims.{claims}
 use Rattle.record.specs.declared.Refusal.{Refusal}
 use Rattle.record.specs.Records.{recordOf}
-use Rattle.table.specs.Table.{tableAfter}
 use Rattle.record.specs.Refusals.{badRows}
-use Rattle.run.specs.declared.Run.{Run}
 use Rattle.record.specs.declared.Handed.{Handed}
 use Rattle.record.specs.declared.Handed.the-variants.{Count, Refused}
+use Rattle.table.specs.Table.{tableAfter}
+use Rattle.table.proofs.Handing.{unused-unique}
+use Rattle.run.specs.declared.Run.{Run}
 use Rattle.run.specs.declared.Checked.{Checked}
 use Rattle.run.specs.declared.Checked.the-variants.{Good, Bad}
 use Rattle.run.specs.declared.Started.{Started}
@@ -60,6 +61,7 @@ column-unique run run′ run″ column grid g h work w v table t u a b p q =
       p .run-after ∙ ap (λ (x : Handed). columnRun x run) f ∙ sym (q .run-after),
       p .grid-after ∙ sym (q .grid-after),
       p .filled ∙ ap₂ (λ (x : Handed) (l : List Entry). tableAfter x (map recordOf l) table) f e ∙ sym (q .filled),
+      unused-unique f (p .unused) (q .unused),
     )
 
 pub end-unique : EndUnique
@@ -72,6 +74,7 @@ end-unique run run′ run″ grid work w v table t u a b p q =
       f,
       p .run-after ∙ ap (λ (x : Handed). endRun x run) f ∙ sym (q .run-after),
       p .filled ∙ ap₂ (λ (x : Handed) (l : List Entry). tableAfter x (map recordOf l) table) f e ∙ sym (q .filled),
+      unused-unique f (p .unused) (q .unused),
     )
 
 -- ---- what an accepted call tells

@@ -13,10 +13,10 @@ use types.Kit.{Given}
 use denote.Laws.{Is}
 use denote.Enum.Laws as EL
 use denote.Struct.Laws as LL
-use Rattle.run.specs.declared.Run.{Run}
-use Rattle.run.specs.declared.Step.{Step}
 use Rattle.record.proofs.Handed as S
 use Rattle.record.proofs.Handed.Laws as S′
+use Rattle.run.specs.declared.Run.{Run}
+use Rattle.run.specs.declared.Step.{Step}
 use Rattle.run.proofs.Run as N
 use Rattle.run.proofs.Run.Laws as N′
 use Rattle.run.proofs.Step as U

@@ -14,9 +14,9 @@ use Rattle.relief.specs.Runs.{Batch}
 use Rattle.relief.specs.Plane.{Plane, stageOf}
 use Rattle.record.specs.declared.Peak.{Peak}
 use Rattle.record.specs.declared.Refusal.{Refusal}
+use Rattle.record.specs.declared.Handed.the-variants.{Count, Refused}
 use Rattle.run.specs.declared.Run.{Run}
 use Rattle.run.specs.declared.Started.the-variants as Started
-use Rattle.record.specs.declared.Handed.the-variants.{Count, Refused}
 use Rattle.run.specs.Running.{takenOf, startAnswer, Columns, Ends}
 
 -- Refused calls of Column and End may stand between accepted ones, with any grid that still holds the taken cells.

@@ -23,13 +23,13 @@ use Rattle.record.specs.declared.Peak.{Peak}
 use Rattle.record.proofs.Refusals.{rows-none, rows-many, rows-right}
 use Rattle.words.specs.Area.{levelIn}
 use Rattle.sweep.specs.Taking.{cut}
-use Rattle.layout.specs.Layout.{bytesOf, recordsOf}
 use Rattle.survey.specs.Answers.{entriesIn, Loaded, Answered}
 use Rattle.survey.proofs.Recording.{places-record, places-length}
-use Rattle.suite.specs.Entry.{heightsOf, suiteAnswer, suiteTable, SuiteLists}
 use Rattle.survey.proofs.Marking.{loaded-levels}
-use Rattle.suite.proofs.Heights.{heights-length}
+use Rattle.layout.specs.Layout.{bytesOf, recordsOf}
 use Rattle.layout.proofs.Putting.{recordBytes}
+use Rattle.suite.specs.Entry.{heightsOf, suiteAnswer, suiteTable, SuiteLists}
+use Rattle.suite.proofs.Heights.{heights-length}
 
 -- ---- refused before the list is made
 

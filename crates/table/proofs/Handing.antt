@@ -2,7 +2,7 @@
 --     counted-none       no record of no cell can be read
 --     handed-fillable    what the call leaves may be filled into the row; at a refusal, no record
 --     handed-filled      the row that is filled so is that after the answer
---     unused-*           the work area at a refusal before its use, at 5, and on success
+--     unused-*           the work area at a refusal before its use, at 5, and on success; two of them
 -- Assumes nothing.
 use mathlib.Core.Path.{_≡_, refl, sym, _∙_, ap, subst}
 use mathlib.Core.List.{List, _++_}
@@ -48,6 +48,9 @@ module _ (table : List Peak) (left : List ℕ) {cells m : ℕ} where
 pub refused-count : {r : Refusal} {n : ℕ} → Refused r ≡ Count n → ⊥
 refused-count e = let z : _≡_ {A = ℕ} 0 1 = cc in omega arith
 
+pub count-same : {m n : ℕ} → Count m ≡ Count n → m ≡ n
+count-same e = cc
+
 refused-same : {r r′ : Refusal} → Refused r ≡ Refused r′ → r ≡ r′
 refused-same e = cc
 
@@ -60,3 +63,6 @@ module _ {work work′ : List ℕ} where
 
   pub unused-count : {n : ℕ} → Unused (Count n) work work′
   unused-count r e n = absurd (refused-count (sym e))
+
+pub unused-unique : {a b : Handed} {work w v : List ℕ} → a ≡ b → Unused a work w → Unused b work v → Unused a w v
+unused-unique q h k r e n = k r (sym q ∙ e) n ∙ sym (h r e n)

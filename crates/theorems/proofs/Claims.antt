@@ -8,7 +8,6 @@ use native.Mathlib.Omega.{arith}
 use Rattle.relief.specs.Heights.{heightOf}
 use Rattle.relief.specs.Peaks.{Key, missing, key, Entry, Wanted, KeyOf, Listed}
 use Rattle.relief.specs.Runs.{Stage, Further}
-use Rattle.theorems.specs.Claims.{Touching, OfGrid, Handing, OfHanding, Claims}
 use Rattle.relief.proofs.Deciding.{split, Decides, true-not-false, le-or-lt, lt-decides}
 use Rattle.relief.proofs.Ways.{way-end, way-step, path-of-way}
 use Rattle.relief.proofs.Reaching.{way-decides}
@@ -20,6 +19,7 @@ use Rattle.relief.proofs.Closing as Closing
 use Rattle.relief.proofs.Growing as Growing
 use Rattle.relief.proofs.Plane as Plane
 use Rattle.relief.proofs.PlaneRun.{plane-growing, heightOf-level, plane-open}
+use Rattle.theorems.specs.Claims.{Touching, OfGrid, Handing, OfHanding, Claims}
 use Rattle.theorems.proofs.Grids.{marked-follow}
 
 abbrev isYes : {A : Type 0} → Dec A → Bool

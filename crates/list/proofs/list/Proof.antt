@@ -45,19 +45,19 @@ use denote.Triple.Walked.{goes-gave-slice, goes-none-slice, Walks, ends-at, walk
 use denote.Exit.{yes as kept}
 use Rattle.record.specs.declared.Peak.{Peak}
 use Rattle.record.proofs.Peak as T
+use Rattle.record.specs.declared.Handed.{Handed}
+use Rattle.record.proofs.Handed as S
+use Rattle.record.proofs.Handed.Laws as S′
 use Rattle.table.proofs.Filling.{Fill, Filled, fill-known, calls-fill}
 use Rattle.table.proofs.Locals.{localAt, copied, release}
 use Rattle.table.proofs.fill.Symbol.{name as #table·fill}
-use Rattle.record.specs.declared.Handed.{Handed}
 use Rattle.table.specs.Table.{countIn, cellsIn}
-use Rattle.list.proofs.list.Proof.Calling.{FlatCall, flat-known, Left, calls-flat}
-use Rattle.list.proofs.Answers.{flat-fillable, flat-lists}
 use Rattle.table.proofs.Calls.{CellsOf, CountOf, cells-known, count-known, calls-cells, calls-count}
-use Rattle.record.proofs.Handed as S
-use Rattle.record.proofs.Handed.Laws as S′
-use Rattle.list.proofs.flat.Symbol.{name as #list·flat}
 use Rattle.table.proofs.cells_of.Symbol.{name as #table·cells-of}
 use Rattle.table.proofs.count_of.Symbol.{name as #table·count-of}
+use Rattle.list.proofs.list.Proof.Calling.{FlatCall, flat-known, Left, calls-flat}
+use Rattle.list.proofs.Answers.{flat-fillable, flat-lists}
+use Rattle.list.proofs.flat.Symbol.{name as #list·flat}
 use Rattle.list.proofs.list.Key.{name as #list·list}
 use Rattle.list.proofs.list as list
 use Rattle.list.proofs.list.Statement as stated

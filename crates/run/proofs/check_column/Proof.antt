@@ -1,8 +1,8 @@
 -- `check_column`: the answer at each return, by the tests so far (`Checks`). Rows are at most 1,024 where they are
 -- multiplied with columns, so the product fits. Assumes nothing.
+use borrow.Author.Needs.{needs}
 use Rattle.record.proofs.Refusals.{rows-none, rows-many, rows-right}
 use Rattle.run.proofs.Checks as Checks
-use borrow.Author.Needs.{needs}
 use Rattle.run.proofs.check_column.Statement.{statement}
 use Rattle.run.proofs.check_column.Tie as tie
 

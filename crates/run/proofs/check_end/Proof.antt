@@ -1,7 +1,7 @@
 -- `check_end`: the answer at each return, by the tests so far (`Checks`). Assumes nothing.
+use borrow.Author.Needs.{needs}
 use Rattle.record.proofs.Refusals.{rows-none, rows-many, rows-right}
 use Rattle.run.proofs.Checks as Checks
-use borrow.Author.Needs.{needs}
 use Rattle.run.proofs.check_end.Statement.{statement}
 use Rattle.run.proofs.check_end.Tie as tie
 

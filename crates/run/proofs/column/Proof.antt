@@ -46,14 +46,16 @@ use Rattle.record.proofs.Peak as T
 use Rattle.table.proofs.Filling.{Fill, Filled, fill-known, calls-fill}
 use Rattle.table.proofs.Locals.{localAt, copied, release}
 use Rattle.table.proofs.fill.Symbol.{name as #table·fill}
+use Rattle.table.specs.Table.{countIn, cellsIn}
+use Rattle.table.proofs.Calls.{CellsOf, CountOf, cells-known, count-known, calls-cells, calls-count}
+use Rattle.table.proofs.cells_of.Symbol.{name as #table·cells-of}
+use Rattle.table.proofs.count_of.Symbol.{name as #table·count-of}
 use Rattle.run.specs.declared.Run.{Run}
 use Rattle.run.specs.declared.Step.{Step}
-use Rattle.table.specs.Table.{countIn, cellsIn}
 use Rattle.run.specs.Running.{takenOf}
 use Rattle.run.proofs.column.Proof.Calling.{FlatCall, flat-known, Left, calls-flat}
 use Rattle.run.proofs.Rows.{column-fillable, column-filled}
 use Rattle.run.proofs.Values.{runVal, stepVal, step-is, run-is, handed-is, run-typed, step-typed, handed-typed}
-use Rattle.table.proofs.Calls.{CellsOf, CountOf, cells-known, count-known, calls-cells, calls-count}
 use Rattle.run.proofs.Calls.{TakenCells, taken-known, calls-taken}
 use Rattle.run.proofs.Run as N
 use Rattle.run.proofs.Run.Laws as N′
@@ -61,8 +63,6 @@ use Rattle.run.proofs.Step as U
 use Rattle.run.proofs.Step.Laws as U′
 use Rattle.run.proofs.column_flat.Symbol.{name as #run·column-flat}
 use Rattle.run.proofs.taken_cells.Symbol.{name as #run·taken-cells}
-use Rattle.table.proofs.cells_of.Symbol.{name as #table·cells-of}
-use Rattle.table.proofs.count_of.Symbol.{name as #table·count-of}
 use Rattle.run.proofs.column.Key.{name as #run·column}
 use Rattle.run.proofs.column as columns
 use Rattle.run.proofs.column.Statement as stated

@@ -2,8 +2,8 @@
 use mathlib.Core.Path.{refl, sym, _∙_}
 use lib.ListN.{length}
 use denote.Ref.{now}
-use Rattle.run.proofs.Columns.{column-passed, column-refused}
 use borrow.Author.Needs.{needs}
+use Rattle.run.proofs.Columns.{column-passed, column-refused}
 use Rattle.run.proofs.column_flat.Statement.{statement}
 use Rattle.run.proofs.column_flat.Tie as tie
 

@@ -4,6 +4,7 @@ use mathlib.Core.Path.{refl}
 use mathlib.Core.List.{[]}
 use native.Mathlib.Omega.{arith}
 use denote.Ref.{now}
+use borrow.Author.Needs.{needs}
 use Rattle.run.proofs.Coded.{
   column-sum,
   column-copying,
@@ -13,7 +14,6 @@ use Rattle.run.proofs.Coded.{
   code-short,
   code-count,
 }
-use borrow.Author.Needs.{needs}
 use Rattle.run.proofs.column_good.Statement.{statement}
 use Rattle.run.proofs.column_good.Tie as tie
 

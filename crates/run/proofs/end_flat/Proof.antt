@@ -3,8 +3,8 @@ use mathlib.Core.List.{[]}
 use mathlib.Core.Path.{refl, sym, _∙_}
 use lib.ListN.{length}
 use denote.Ref.{now}
-use Rattle.run.proofs.Columns.{end-passed, end-refused}
 use borrow.Author.Needs.{needs}
+use Rattle.run.proofs.Columns.{end-passed, end-refused}
 use Rattle.run.proofs.end_flat.Statement.{statement}
 use Rattle.run.proofs.end_flat.Tie as tie
 

@@ -4,8 +4,8 @@ use mathlib.Core.Path.{refl}
 use mathlib.Core.List.{[]}
 use native.Mathlib.Omega.{arith}
 use denote.Ref.{now}
-use Rattle.run.proofs.Coded.{end-sum, end-loading, end-surveying, end-code-short, end-code-count}
 use borrow.Author.Needs.{needs}
+use Rattle.run.proofs.Coded.{end-sum, end-loading, end-surveying, end-code-short, end-code-count}
 use Rattle.run.proofs.end_good.Statement.{statement}
 use Rattle.run.proofs.end_good.Tie as tie
 

@@ -124,7 +124,8 @@ module _ {M : Type 1} (𝓤 : URA M) (H : Heap 𝓤) (A : Atoms 𝓤) (W : Given
   -- ---- the end
   exits : (w : Written) (u : Val) → Is S.the-row w (u ∷ []) → (k : ℕ) → FirstUnsound (h .now) (t .now) k
       → (zs : List ℕ) → GridLeft rows (h .now) n k ys w zs → (ts : List ℕ) → PutLeft zs cells (t .now) (putOf w n) ts
-      → ent 𝓤 (⋆ 𝓤 H A (‵ (flft κ₀ q₀) ∷ ‵ (flft κ₁ q₁) ∷ ‵ (flft κ₂ q₂) ∷ ‵ Hts ∷ ‵ Recs ∷ ‵ (finally u8 γ ts) ∷ []))
+      → ent 𝓤 (⋆ 𝓤 H A (‵ (flft κ₀ q₀) ∷ ‵ (flft κ₁ q₁) ∷ ‵ (flft κ₂ q₂) ∷ ‵ Hts ∷ ‵ Recs
+      ∷ ‵ (finally u8 γ ts) ∷ []))
       (Post u)
   exits w u is k found zs left ts put-left =
       qed W (‵ (flft κ₀ q₀) ∷ ‵ (flft κ₁ q₁) ∷ ‵ (flft κ₂ q₂) ∷ ‵ Hts ∷ ‵ Recs ∷ ‵ (finally u8 γ ts) ∷ []) ∵

@@ -1,7 +1,7 @@
 -- `layout::cells_to_take` meets its contract, case by case. Assumes nothing.
 use mathlib.Core.Path.{sym, ap, _∙_}
-use Rattle.layout.specs.Steps.{cellsToTake}
 use borrow.Author.Needs.{needs}
+use Rattle.layout.specs.Steps.{cellsToTake}
 use Rattle.layout.proofs.reader.cells_to_take.Statement.{statement}
 use Rattle.layout.proofs.reader.cells_to_take.Tie as tie
 

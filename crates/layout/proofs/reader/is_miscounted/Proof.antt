@@ -5,10 +5,10 @@ use Prim.Native.Nat.{ℕ, _+_, _*_}
 use borrow.Author.Tests.{lt-ltb, le-ltb, eq-eqb, ne-eqb}
 use denote.Ref.{now}
 use lib.Dec.{eqb}
+use borrow.Author.Needs.{needs}
 use Rattle.words.specs.Words.{wordAt}
 use Rattle.layout.specs.Layout.{totalOf}
 use Rattle.layout.specs.Reading.{miscounted}
-use borrow.Author.Needs.{needs}
 use Rattle.layout.proofs.reader.is_miscounted.Statement.{statement}
 use Rattle.layout.proofs.reader.is_miscounted.Tie as tie
 

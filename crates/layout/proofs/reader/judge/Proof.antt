@@ -6,6 +6,7 @@ use mathlib.Core.Path.{_≡_, sym, ap, _∙_}
 use Prim.Native.Nat.{ℕ, _*_, _≤_}
 use native.Mathlib.Omega.{arith}
 use denote.Ref.{now}
+use borrow.Author.Needs.{needs}
 use Rattle.record.specs.declared.Refusal.the-variants.{Table, Unsound, Room}
 use Rattle.layout.specs.declared.ReadBack.the-variants.{Refused}
 use Rattle.layout.specs.Layout.{rowsIn, peaksIn, cellsIn, heightsIn, recordsIn}
@@ -14,7 +15,6 @@ use Rattle.layout.specs.Sound.{FirstUnsound}
 use Rattle.layout.proofs.Reading.{Gridded, Whole, read-short, read-none, read-many, read-cells, read-counts}
 use Rattle.layout.proofs.Reading.{read-total, read-unsound, read-room, read-table, read-run, counted-not}
 use Rattle.layout.proofs.Reading.{judged}
-use borrow.Author.Needs.{needs}
 use Rattle.layout.proofs.reader.judge.Statement.{statement}
 use Rattle.layout.proofs.reader.judge.Tie as tie
 

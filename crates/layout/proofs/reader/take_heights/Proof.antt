@@ -11,9 +11,9 @@ use lib.ListN.{length, drop, length-append, length-drop}
 use mir.Syntax.{w32}
 use mir.Val.{SFits}
 use mir.ValLaws.{toZ-ofZ}
+use borrow.Author.Needs.{needs}
 use Rattle.layout.specs.Layout.{signedOf, heightsIn}
 use Rattle.layout.proofs.Rows.{heights-length, heights-fill}
-use borrow.Author.Needs.{needs}
 use Rattle.layout.proofs.reader.take_heights.Statement.{statement}
 use Rattle.layout.proofs.reader.take_heights.Tie as tie
 

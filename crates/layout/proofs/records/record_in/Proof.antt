@@ -2,8 +2,8 @@
 use mathlib.Core.Path.{_∙_}
 use mir.Syntax.{w32}
 use mir.ValLaws.{toZ-ofZ}
-use Rattle.layout.specs.Layout.{recordIn}
 use borrow.Author.Needs.{needs}
+use Rattle.layout.specs.Layout.{recordIn}
 use Rattle.layout.proofs.records.record_in.Statement.{statement}
 use Rattle.layout.proofs.records.record_in.Tie as tie
 

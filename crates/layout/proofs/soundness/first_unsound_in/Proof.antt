@@ -8,12 +8,12 @@ use native.Mathlib.Numerals.{add-one}
 use native.Mathlib.Omega.{arith}
 use borrow.Author.Tests.{not-true, not-false}
 use denote.Ref.{now}
+use borrow.Author.Needs.{needs}
 use Rattle.record.specs.declared.Peak.{Peak}
 use Rattle.layout.specs.Layout.{heightsIn, recordIn, recordsIn}
 use Rattle.layout.specs.Sound.{Sound, recordAt}
 use Rattle.layout.proofs.Rows.{records-length, records-at}
 use Rattle.layout.proofs.Sounding.{Scan, scan-start, scan-step, scan-stop, scan-done}
-use borrow.Author.Needs.{needs}
 use Rattle.layout.proofs.soundness.first_unsound_in.Statement.{statement}
 use Rattle.layout.proofs.soundness.first_unsound_in.Tie as tie
 

@@ -7,10 +7,10 @@ use lib.ListN.{List·getD-eq-default}
 use mir.Syntax.{w32}
 use mir.Val.{SFits}
 use mir.ValLaws.{toZ-ofZ}
+use borrow.Author.Needs.{needs}
 use Rattle.relief.specs.Heights.{BLANK}
 use Rattle.layout.specs.Layout.{signedOf, heightsIn}
 use Rattle.layout.proofs.Rows.{heights-length, heights-at}
-use borrow.Author.Needs.{needs}
 use Rattle.layout.proofs.soundness.height_in.Statement.{statement}
 use Rattle.layout.proofs.soundness.height_in.Tie as tie
 

@@ -2,8 +2,8 @@
 -- Assumes nothing.
 use mathlib.Core.Path.{refl}
 use denote.Ref.{now}
-use Rattle.layout.proofs.Rows.{fetched}
 use borrow.Author.Needs.{needs}
+use Rattle.layout.proofs.Rows.{fetched}
 use Rattle.layout.proofs.soundness.is_sound_at.Statement.{statement}
 use Rattle.layout.proofs.soundness.is_sound_at.Tie as tie
 

@@ -1,9 +1,9 @@
 -- `layout::is_sound_in` meets its contract: what its cell and its pass cell hold decides whether a record is sound.
 -- Assumes nothing.
 use denote.Ref.{now}
+use borrow.Author.Needs.{needs}
 use Rattle.layout.specs.Layout.{heightsIn}
 use Rattle.layout.proofs.Rows.{fetched, heights-length}
-use borrow.Author.Needs.{needs}
 use Rattle.layout.proofs.soundness.is_sound_in.Statement.{statement}
 use Rattle.layout.proofs.soundness.is_sound_in.Tie as tie
 

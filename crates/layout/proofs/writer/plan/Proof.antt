@@ -3,11 +3,11 @@
 use mathlib.Core.Path.{_≡_, sym, ap, _∙_}
 use Prim.Native.Nat.{ℕ, _%_}
 use native.Mathlib.Omega.{arith}
+use borrow.Author.Needs.{needs}
 use Rattle.record.specs.declared.Refusal.the-variants.{Unsound, Room}
 use Rattle.layout.specs.declared.Written.the-variants.{Bytes, Refused}
 use Rattle.layout.proofs.Writing.{write-none, write-many, write-length, write-cells, write-unsound}
 use Rattle.layout.proofs.Writing.{write-room, write-bytes}
-use borrow.Author.Needs.{needs}
 use Rattle.layout.proofs.writer.plan.Statement.{statement}
 use Rattle.layout.proofs.writer.plan.Tie as tie
 

@@ -6,9 +6,9 @@ use Prim.Native.Nat.{ℕ, _+_, _*_, _/_}
 use native.Mathlib.Nat.{div-le-self}
 use native.Mathlib.Omega.{arith}
 use denote.Ref.{now}
+use borrow.Author.Needs.{needs}
 use Rattle.layout.specs.Layout.{headerOf, totalOf}
 use Rattle.layout.proofs.Pasting.{over-nil, over-next}
-use borrow.Author.Needs.{needs}
 use Rattle.layout.proofs.writer.put_header.Statement.{statement}
 use Rattle.layout.proofs.writer.put_header.Tie as tie
 

@@ -11,11 +11,11 @@ use lib.ListN.{length, take, getD, length-map}
 use lib.Seq.{take-suc, take-length, length-take-le}
 use mir.Syntax.{w32}
 use mir.ValLaws.{toZ-ofZ}
+use borrow.Author.Needs.{needs}
 use Rattle.layout.specs.Layout.{bitsOf, wordOf, bytesOf}
 use Rattle.layout.specs.Steps.{over}
 use Rattle.layout.proofs.Pasting.{over-nil, over-next, over-length}
 use Rattle.layout.proofs.Rows.{bytes-length}
-use borrow.Author.Needs.{needs}
 use Rattle.layout.proofs.writer.put_heights.Statement.{statement}
 use Rattle.layout.proofs.writer.put_heights.Tie as tie
 

@@ -41,10 +41,10 @@ use denote.Triple.Clauses.{Lasts, ensured, lasts}
 use denote.Triple.Spec.{tripleOf}
 use denote.Triple.Table.{cited}
 use denote.Triple.Walked.{says}
-use Rattle.table.proofs.Again.{LentMut, lends-again, comes-back}
 use Rattle.record.specs.declared.Handed.{Handed}
-use Rattle.list.specs.Listing.{Flat}
 use Rattle.record.proofs.Handed as S
+use Rattle.table.proofs.Again.{LentMut, lends-again, comes-back}
+use Rattle.list.specs.Listing.{Flat}
 use Rattle.list.proofs.flat as flat
 use Rattle.list.proofs.flat.Symbol as flat-def
 use Rattle.list.proofs.flat.Symbol.{name as #list·flat}

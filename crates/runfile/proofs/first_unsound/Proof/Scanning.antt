@@ -43,8 +43,8 @@ use denote.Triple.Walked.{says}
 use Rattle.record.specs.declared.Peak.{Peak}
 use Rattle.record.proofs.Peak as T
 use Rattle.record.proofs.Peak.Laws as T′
-use Rattle.layout.specs.Steps.{Scans, scannedOf}
 use Rattle.table.proofs.Locals.{lands-number, calls-number}
+use Rattle.layout.specs.Steps.{Scans, scannedOf}
 use Rattle.layout.proofs.soundness.scan as scan
 use Rattle.layout.proofs.soundness.scan.Symbol.{name as #layout·scan}
 use Rattle.layout.proofs.soundness.scanned as scanned

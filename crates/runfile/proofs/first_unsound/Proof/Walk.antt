@@ -48,15 +48,15 @@ use denote.Index.{place-is, elem-out, elem-back, looks-slice, shuts-slice}
 use denote.Struct.Laws as LL
 use denote.Triple.Statement.{Triple}
 use denote.Triple.Entry.{onEntry}
+use Rattle.relief.specs.Heights.{BLANK}
 use Rattle.record.specs.declared.Peak.{Peak}
 use Rattle.record.proofs.Peak as T
 use Rattle.record.proofs.Peak.Laws as T′
-use Rattle.relief.specs.Heights.{BLANK}
 use Rattle.record.specs.Records.{withoutKey}
-use Rattle.layout.specs.Sound.{recordAt}
-use Rattle.layout.specs.Steps.{scannedOf}
 use Rattle.table.proofs.Locals.{localAt, copied, release}
 use Rattle.table.proofs.Turning.{bytes-fit}
+use Rattle.layout.specs.Sound.{recordAt}
+use Rattle.layout.specs.Steps.{scannedOf}
 use Rattle.layout.proofs.Sounding.{scanned-step, scanned-done}
 use Rattle.layout.proofs.soundness.scan.Symbol.{name as #layout·scan}
 use Rattle.layout.proofs.soundness.scanned.Symbol.{name as #layout·scanned}

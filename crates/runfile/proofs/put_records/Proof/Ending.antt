@@ -74,7 +74,8 @@ module _ (b o : ℕ) (γ : GName) (ys : List ℕ) (cells : ℕ) (r : RefT (List 
 
     pub exits : Given 𝓤 H A → cells < 2 ^ 64 → count < 2 ^ 64
         → (zs : List ℕ) → length zs ≡ length ys → zs ≡ laid ys cells (r .now) count
-        → ent 𝓤 (⋆ 𝓤 H A (‵ (flft κ₀ q₀) ∷ ‵ (RoomAt κ₀ b o (length ys) γ zs) ∷ ‵ (flft κ₁ q₁) ∷ ‵ (Recs κ₁ r) ∷ []))
+        → ent 𝓤 (⋆ 𝓤 H A (‵ (flft κ₀ q₀) ∷ ‵ (RoomAt κ₀ b o (length ys) γ zs) ∷ ‵ (flft κ₁ q₁)
+        ∷ ‵ (Recs κ₁ r) ∷ []))
         (Ended vunit)
     exits W cells-fits count-fits zs l e =
         qed W (‵ (flft κ₀ q₀) ∷ ‵ (RoomAt κ₀ b o (length ys) γ zs) ∷ ‵ (flft κ₁ q₁) ∷ ‵ (Recs κ₁ r) ∷ []) ∵

@@ -42,9 +42,9 @@ use denote.Triple.Walked.{says}
 use Rattle.record.specs.declared.Peak.{Peak}
 use Rattle.record.proofs.Peak as T
 use Rattle.record.proofs.Peak.Laws as T′
+use Rattle.table.proofs.Again.{LentMut, lends-again, comes-back}
 use Rattle.layout.specs.Layout.{bytesOf, recordOf, totalOf}
 use Rattle.layout.specs.Steps.{over}
-use Rattle.table.proofs.Again.{LentMut, lends-again, comes-back}
 use Rattle.layout.proofs.writer.put_record as put-one
 use Rattle.layout.proofs.writer.put_record.Symbol.{name as #layout·put-record}
 

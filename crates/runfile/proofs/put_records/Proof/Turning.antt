@@ -11,8 +11,8 @@ use Prim.Native.Nat.{ℕ, _+_, _≤_, _<_}
 use native.Mathlib.Decide.{decLt}
 use native.Mathlib.Omega.{arith}
 use lib.ListN.{length, getD}
-use Rattle.record.specs.declared.Peak.{Peak}
 use Rattle.relief.specs.Heights.{BLANK}
+use Rattle.record.specs.declared.Peak.{Peak}
 use Rattle.record.specs.Records.{withoutKey}
 use Rattle.table.proofs.Turning.{Upto}
 use Rattle.layout.specs.Layout.{bytesOf, recordOf, totalOf}

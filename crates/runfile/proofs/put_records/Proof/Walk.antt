@@ -49,10 +49,10 @@ use denote.Triple.Entry.{onEntry}
 use Rattle.record.specs.declared.Peak.{Peak}
 use Rattle.record.proofs.Peak as T
 use Rattle.record.proofs.Peak.Laws as T′
-use Rattle.layout.specs.Layout.{totalOf}
-use Rattle.layout.specs.Steps.{Puttable, laid}
 use Rattle.table.proofs.Locals.{localAt, copied, release}
 use Rattle.table.proofs.Turning.{Upto, Nearer, Nearer-wf}
+use Rattle.layout.specs.Layout.{totalOf}
+use Rattle.layout.specs.Steps.{Puttable, laid}
 use Rattle.layout.proofs.Pasting.{laid-start}
 use Rattle.layout.proofs.writer.put_record.Symbol.{name as #layout·put-record}
 use Rattle.runfile.proofs.put_records as put

@@ -49,11 +49,11 @@ use denote.Triple.Entry.{onEntry}
 use Rattle.record.specs.declared.Peak.{Peak}
 use Rattle.record.proofs.Peak as T
 use Rattle.record.proofs.Peak.Laws as T′
+use Rattle.table.proofs.Locals.{localAt, copied, release}
+use Rattle.table.proofs.Turning.{Upto, Nearer, Nearer-wf, bytes-fit, next-fits}
 use Rattle.layout.specs.Layout.{recordIn}
 use Rattle.layout.specs.Steps.{Takable, filled}
 use Rattle.layout.proofs.Rows.{filled-start, filled-step}
-use Rattle.table.proofs.Locals.{localAt, copied, release}
-use Rattle.table.proofs.Turning.{Upto, Nearer, Nearer-wf, bytes-fit, next-fits}
 use Rattle.layout.proofs.records.record_in.Symbol.{name as #layout·record-in}
 use Rattle.runfile.proofs.take_records as take
 use Rattle.runfile.proofs.take_records.Proof.Ending.{R, args, vals, Ended, exits}
