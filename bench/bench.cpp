@@ -5,8 +5,8 @@
 //                     nobody counts prints only how the two times compare
 //     bench --small   only checks that both agree, on small grids of all kinds
 //     bench --one KIND WHO TURNS
-//                     lists a grid of 256 x 256 cells so many times, for who counts instructions (callgrind.py); KIND is
-//                     the number of the kind, WHO library or reference
+//                     lists a grid of 256 x 256 cells so many times, for who counts instructions (callgrind.py);
+//                     KIND is the number of the kind, WHO library or reference
 //
 // Every call's records are compared; a difference ends the program with status 1.
 

@@ -1,8 +1,8 @@
 #!/usr/bin/env python3
 """Counts the instructions of a list for a cell, library and reference, by callgrind: callgrind.py BENCH
 
-What one call takes is what a program of two calls takes more than a program of one. Where valgrind is missing nothing is
-counted, and a line says so.
+What one call takes is what a program of two calls takes more than a program of one. Where valgrind is missing nothing
+is counted, and a line says so.
 """
 import re
 import shutil
@@ -14,7 +14,8 @@ KINDS = 6
 
 def run(program, kind, who, turns):
     """The instructions of the whole program, and what it printed."""
-    words = ["valgrind", "--tool=callgrind", "--callgrind-out-file=/dev/null", program, "--one", str(kind), who, str(turns)]
+    count = ["valgrind", "--tool=callgrind", "--callgrind-out-file=/dev/null"]
+    words = [*count, program, "--one", str(kind), who, str(turns)]
     done = subprocess.run(words, capture_output=True, text=True, check=True)
     return int(re.search(r"Collected : (\d+)", done.stderr).group(1)), done.stdout
 
