@@ -17,7 +17,7 @@ use lib.ListN.{length, getD, set}
 use lib.Seq.{sets, ext-getD, getD-set-same, getD-set-other, set-out}
 use mir.Syntax.{w8}
 use mir.Val.{Fits}
-use Rattle.relief.proofs.Deciding.{split, le-or-lt}
+use Rattle.relief.proofs.Tests.{split, le-or-lt}
 use Rattle.words.specs.Words.{wordAt, Stored}
 use Rattle.words.proofs.Laws.{store-word}
 use Rattle.layout.specs.Layout.{wordOf, bytesOf}

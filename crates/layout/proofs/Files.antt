@@ -30,8 +30,8 @@ use Rattle.layout.specs.Sound.{Keyless, Keyed, recordAt, GridOf, SoundRo
 use Rattle.layout.proofs.Complement.{signed-bits, bits-signed}
 use Rattle.layout.proofs.Rows.{four-length, four-at, record-four, bytes-length, bytes-at, bytes-word}
 use Rattle.layout.proofs.Rows.{heights-length, heights-at, records-length, records-at, at-any}
-use Rattle.layout.proofs.Pasting.{byte-of-word}
-use Rattle.layout.proofs.Reading.{Readable}
+use Rattle.layout.proofs.Over.{byte-of-word}
+use Rattle.layout.proofs.ReadAnswer.{Readable}
 
 -- ---- the numbers of a written file
 

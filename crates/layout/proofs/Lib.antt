@@ -1,10 +1,10 @@
 pub mod Complement
 pub mod Rows
-pub mod Pasting
-pub mod Sounding
-pub mod Writing
-pub mod Reading
+pub mod Over
+pub mod Sound
+pub mod WriteAnswer
+pub mod ReadAnswer
 pub mod Files
-pub mod Laying
+pub mod Room
 pub mod Bytes
-pub mod Putting
+pub mod TableBytes

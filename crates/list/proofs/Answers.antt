@@ -14,8 +14,8 @@ use borrow.Author.Tests.{eq-eqb, ne-eqb, lt-ltb, le-ltb}
 use Rattle.relief.specs.Heights.{levels}
 use Rattle.relief.specs.Peaks.{Entry, Listed, ListOf}
 use Rattle.relief.specs.Plane.{Plane}
-use Rattle.relief.proofs.Listing.{order-unique}
-use Rattle.relief.proofs.Surveying.{survey, survey-list}
+use Rattle.relief.proofs.Lists.{order-unique}
+use Rattle.relief.proofs.Survey.{survey, survey-list}
 use Rattle.relief.proofs.Plane.{plane?}
 use Rattle.relief.proofs.PlaneRun.{plane-terrain}
 use Rattle.record.specs.declared.Peak.{Peak}
@@ -28,7 +28,7 @@ use Rattle.record.proofs.Refusals.{rows-none, rows-many, rows-right}
 use Rattle.words.specs.Area.{levelIn}
 use Rattle.sweep.specs.Taking.{cut}
 use Rattle.table.specs.Table.{Counted, recordsIn, Fillable, countIn, cellsIn, tableAfter, Unused}
-use Rattle.table.proofs.Handing.{
+use Rattle.table.proofs.Handed.{
   handed-fillable,
   handed-filled,
   refused-count,
@@ -39,8 +39,8 @@ use Rattle.table.proofs.Handing.{
   unused-unique,
 }
 use Rattle.survey.specs.Answers.{entriesIn, Loaded, Answered}
-use Rattle.survey.proofs.Recording.{places-record, places-length}
-use Rattle.survey.proofs.Marking.{loaded-levels}
+use Rattle.survey.proofs.Records.{places-record, places-length}
+use Rattle.survey.proofs.Marks.{loaded-levels}
 use Rattle.list.specs.Listing.{listAnswer, Lists, Flat}
 
 -- ---- the list

@@ -6,13 +6,13 @@ use mathlib.Core.List.{List, _++_}
 use Prim.Native.Nat.{_*_, _/_}
 use lib.ListN.{length, drop}
 use Rattle.relief.specs.Peaks.{Entry}
-use Rattle.relief.proofs.Listing.{order-unique}
+use Rattle.relief.proofs.Lists.{order-unique}
 use Rattle.record.specs.declared.Handed.{Handed}
 use Rattle.run.specs.Running.{columnCheck, handedAnswer}
 use Rattle.layout.specs.declared.ReadBack.{ReadBack}
 use Rattle.layout.specs.Layout.{bytesOf, recordsOf, recordsIn, heightsIn, cellsIn, peaksIn}
 use Rattle.layout.specs.Reading.{readOf, lentOf}
-use Rattle.layout.proofs.Sounding.{first-unique}
+use Rattle.layout.proofs.Sound.{first-unique}
 use Rattle.runfile.proofs.Claims as runfile
 use Rattle.meter.specs.Numbers.{handedNumber, writtenNumber, readNumber}
 use Rattle.meter.specs.Metered.{openRun, handedBytes}

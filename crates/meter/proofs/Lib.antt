@@ -1,6 +1,6 @@
 mod Numbers
 mod Peaks
-mod Handing
-mod Writing
-mod Taking
+mod ColumnTable
+mod Row
+mod ReadTable
 pub mod Claims

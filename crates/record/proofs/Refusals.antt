@@ -12,7 +12,7 @@ use native.Mathlib.Omega.{arith}
 use lib.Dec.{eqb, ltb}
 use lib.ListN.{getD}
 use borrow.Author.Tests.{eq-eqb, ne-eqb, lt-ltb, le-ltb, eqb-false, ltb-false}
-use Rattle.relief.proofs.Deciding.{or-false}
+use Rattle.relief.proofs.Tests.{or-false}
 use Rattle.record.specs.declared.Refusal.{Refusal}
 use Rattle.record.specs.declared.Refusal.the-variants.{Rows, Length, Cells, Work, Table, Ended}
 use Rattle.record.specs.declared.Refusal.the-variants.{ColumnLength, GridFull, TakenCells, FileLength}

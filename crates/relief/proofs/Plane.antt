@@ -14,7 +14,7 @@ use native.Mathlib.Omega.{arith}
 use lib.Dec.{eqb, leb}
 use lib.ListN.{getD}
 use Rattle.relief.specs.Plane.{rowOf, columnOf, Near, Plane}
-use Rattle.relief.proofs.Deciding.{
+use Rattle.relief.proofs.Tests.{
   split,
   Decides,
   and-decides,

@@ -32,12 +32,12 @@ use Rattle.relief.specs.Heights.{BLANK, levelOf, heightOf, levels}
 use Rattle.relief.specs.Peaks.{Island, Entry, floorOf}
 use Rattle.relief.specs.Plane.{rowOf, columnOf, Plane, stageOf}
 use Rattle.relief.specs.Runs.{Open, Further, Growing, KeyKept}
-use Rattle.relief.proofs.Deciding.{split, decide, le-or-lt, le-decides, and-decides, any-decides}
+use Rattle.relief.proofs.Tests.{split, decide, le-or-lt, le-decides, and-decides, any-decides}
 use Rattle.relief.proofs.Ways.{way-end}
-use Rattle.relief.proofs.Peaking.{Terrain, land-below}
+use Rattle.relief.proofs.Flats.{Terrain, land-below}
 use Rattle.relief.proofs.Keys.{island-decides}
-use Rattle.relief.proofs.Closing.{open-changes}
-use Rattle.relief.proofs.Batching.{Staged}
+use Rattle.relief.proofs.Closed.{open-changes}
+use Rattle.relief.proofs.BatchSurvey.{Staged}
 use Rattle.relief.proofs.Plane.{plane?, plane-decides, plane-symmetric, plane-fence}
 
 pub levels-end : (heights : List ℤ) (c : ℕ) → length heights ≤ c → levels heights c ≡ 0

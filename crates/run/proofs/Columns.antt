@@ -19,8 +19,8 @@ use borrow.Author.Tests.{eqb-true, ltb-false, lt-ltb, le-ltb, not-false}
 use Rattle.relief.specs.Heights.{levels}
 use Rattle.relief.specs.Runs.{Stage, Batch, Rest, Closing, Remaining}
 use Rattle.relief.specs.Plane.{Plane, stageOf}
-use Rattle.relief.proofs.Deciding.{split, le-or-lt, or-false}
-use Rattle.relief.proofs.Batching.{surveyBatch, surveyRest, survey-batch, survey-rest}
+use Rattle.relief.proofs.Tests.{split, le-or-lt, or-false}
+use Rattle.relief.proofs.BatchSurvey.{surveyBatch, surveyRest, survey-batch, survey-rest}
 use Rattle.relief.proofs.Plane.{plane?}
 use Rattle.relief.proofs.PlaneRun.{levels-end, levels-take, plane-staged}
 use Rattle.record.specs.declared.Refusal.{Refusal}
@@ -33,9 +33,9 @@ use Rattle.words.specs.Area.{levelIn}
 use Rattle.sweep.specs.Taking.{cut}
 use Rattle.sweep.proofs.Work.{cut-below, cut-behind}
 use Rattle.table.specs.Table.{Counted, recordsIn}
-use Rattle.table.proofs.Handing.{refused-count, count-same, unused-early, unused-short, unused-count}
+use Rattle.table.proofs.Handed.{refused-count, count-same, unused-early, unused-short, unused-count}
 use Rattle.survey.specs.Answers.{entriesIn, Loaded, Answered, stageIn}
-use Rattle.survey.proofs.Recording.{places-record, places-length}
+use Rattle.survey.proofs.Records.{places-record, places-length}
 use Rattle.run.specs.declared.Run.{Run}
 use Rattle.run.specs.declared.Checked.{Checked}
 use Rattle.run.specs.declared.Checked.the-variants.{Good, Bad}

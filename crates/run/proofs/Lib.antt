@@ -3,6 +3,6 @@ pub mod Columns
 pub mod Coded
 pub mod Rows
 pub mod Values
-pub mod Calls
-pub mod Sessions
+pub mod TakenCall
+pub mod WholeRun
 pub mod Claims

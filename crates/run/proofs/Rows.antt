@@ -14,7 +14,7 @@ use Rattle.record.specs.declared.Peak.{Peak}
 use Rattle.record.specs.declared.Handed.{Handed}
 use Rattle.record.specs.declared.Handed.the-variants.{Count}
 use Rattle.table.specs.Table.{recordsIn, Fillable, countIn, cellsIn}
-use Rattle.table.proofs.Handing.{handed-fillable, handed-filled}
+use Rattle.table.proofs.Handed.{handed-fillable, handed-filled}
 use Rattle.run.specs.declared.Run.{Run}
 use Rattle.run.specs.Running.{takenOf, columnRun, endRun}
 use Rattle.run.specs.Running.{Columns, Ends, FlatColumn, FlatEnd}

@@ -23,11 +23,11 @@ use Rattle.layout.specs.Reading.{readOf, lentOf}
 use Rattle.layout.specs.Steps.{cellsToTake, recordsToTake}
 use Rattle.layout.proofs.Files.{file-length, file-rows, file-columns, file-peaks, file-offset, file-offset-2}
 use Rattle.layout.proofs.Files.{file-total, back-cells, back-heights, back-records, read-file}
-use Rattle.layout.proofs.Reading.{Counted, Gridded, Whole, Readable, counted-right, read-run}
-use Rattle.layout.proofs.Reading.{read-readable, read-same}
+use Rattle.layout.proofs.ReadAnswer.{Counted, Gridded, Whole, Readable, counted-right, read-run}
+use Rattle.layout.proofs.ReadAnswer.{read-readable, read-same}
 use Rattle.layout.proofs.Rows.{heights-length, records-length}
-use Rattle.layout.proofs.Sounding.{first-unique, first-all, first-few}
-use Rattle.layout.proofs.Writing.{write-bytes}
+use Rattle.layout.proofs.Sound.{first-unique, first-all, first-few}
+use Rattle.layout.proofs.WriteAnswer.{write-bytes}
 use Rattle.runfile.specs.Promises.{Writes, Reads}
 use Rattle.runfile.specs.Claims.{WriteUnique, ReadUnique, SameRun, ReadsBackWrites}
 use Rattle.runfile.specs.Claims.{WritesBackReads, Claims}

@@ -16,7 +16,7 @@ use borrow.Author.Tests.{eq-eqb, ne-eqb, lt-ltb, le-ltb}
 use Rattle.relief.specs.Heights.{levels}
 use Rattle.relief.specs.Peaks.{Listed}
 use Rattle.relief.specs.Plane.{Plane}
-use Rattle.relief.proofs.Surveying.{survey, survey-list}
+use Rattle.relief.proofs.Survey.{survey, survey-list}
 use Rattle.relief.proofs.Plane.{plane?}
 use Rattle.relief.proofs.PlaneRun.{plane-terrain}
 use Rattle.record.specs.declared.Peak.{Peak}
@@ -24,10 +24,10 @@ use Rattle.record.proofs.Refusals.{rows-none, rows-many, rows-right}
 use Rattle.words.specs.Area.{levelIn}
 use Rattle.sweep.specs.Taking.{cut}
 use Rattle.survey.specs.Answers.{entriesIn, Loaded, Answered}
-use Rattle.survey.proofs.Recording.{places-record, places-length}
-use Rattle.survey.proofs.Marking.{loaded-levels}
+use Rattle.survey.proofs.Records.{places-record, places-length}
+use Rattle.survey.proofs.Marks.{loaded-levels}
 use Rattle.layout.specs.Layout.{bytesOf, recordsOf}
-use Rattle.layout.proofs.Putting.{recordBytes}
+use Rattle.layout.proofs.TableBytes.{recordBytes}
 use Rattle.suite.specs.Entry.{heightsOf, suiteAnswer, suiteTable, SuiteLists}
 use Rattle.suite.proofs.Heights.{heights-length}
 

@@ -5,7 +5,7 @@ use mathlib.Core.List.{List}
 use lib.IntN.{ℤ}
 use lib.ListN.{length}
 use Rattle.relief.specs.Peaks.{Entry}
-use Rattle.relief.proofs.Listing.{order-unique}
+use Rattle.relief.proofs.Lists.{order-unique}
 use Rattle.suite.specs.Entry.{suiteAnswer, suiteTable}
 use Rattle.suite.specs.Claims.{SuiteUnique, Claims}
 

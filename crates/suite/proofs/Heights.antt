@@ -14,9 +14,9 @@ use lib.IntN.{ℤ}
 use lib.ListN.{length, getD, length-append, List·getD-append}
 use lib.Seq.{getD-at}
 use Rattle.relief.specs.Heights.{BLANK, levelOf}
-use Rattle.relief.proofs.Deciding.{split, below-suc}
+use Rattle.relief.proofs.Tests.{split, below-suc}
 use Rattle.words.specs.Words.{wordAt, Stored}
-use Rattle.survey.proofs.Marking.{Loads, loads-step}
+use Rattle.survey.proofs.Marks.{Loads, loads-step}
 use Rattle.layout.specs.Layout.{signedOf}
 use Rattle.suite.specs.Entry.{heightsOf}
 

@@ -1,8 +1,7 @@
-pub mod Choosing
-pub mod Gathering
+pub mod ChosenCells
 pub mod Places
-pub mod Telling
-pub mod Answering
+pub mod CellKinds
+pub mod Answers
 pub mod Surveys
-pub mod Marking
-pub mod Recording
+pub mod Marks
+pub mod Records

@@ -1,7 +1,7 @@
 pub mod Laws
 pub mod Locals
-pub mod Turning
-pub mod Again
-pub mod Filling
-pub mod Handing
-pub mod Calls
+pub mod Upto
+pub mod LentAgain
+pub mod FillCall
+pub mod Handed
+pub mod NumberCalls

@@ -8,15 +8,15 @@ use native.Mathlib.Omega.{arith}
 use Rattle.relief.specs.Heights.{heightOf}
 use Rattle.relief.specs.Peaks.{Key, missing, key, Entry, Wanted, KeyOf, Listed}
 use Rattle.relief.specs.Runs.{Stage, Further}
-use Rattle.relief.proofs.Deciding.{split, Decides, true-not-false, le-or-lt, lt-decides}
+use Rattle.relief.proofs.Tests.{split, Decides, true-not-false, le-or-lt, lt-decides}
 use Rattle.relief.proofs.Ways.{way-end, way-step, path-of-way}
-use Rattle.relief.proofs.Reaching.{way-decides}
-use Rattle.relief.proofs.Peaking.{Terrain, land-below, climb}
+use Rattle.relief.proofs.Reach.{way-decides}
+use Rattle.relief.proofs.Flats.{Terrain, land-below, climb}
 use Rattle.relief.proofs.Keys as Keys
-use Rattle.relief.proofs.Listing as Listing
-use Rattle.relief.proofs.Surveying.{peak-key, survey-list}
-use Rattle.relief.proofs.Closing as Closing
-use Rattle.relief.proofs.Growing as Growing
+use Rattle.relief.proofs.Lists as Listing
+use Rattle.relief.proofs.Survey.{peak-key, survey-list}
+use Rattle.relief.proofs.Closed as Closing
+use Rattle.relief.proofs.Batches as Growing
 use Rattle.relief.proofs.Plane as Plane
 use Rattle.relief.proofs.PlaneRun.{plane-growing, heightOf-level, plane-open}
 use Rattle.theorems.specs.Claims.{Touching, OfGrid, Handing, OfHanding, Claims}

@@ -15,9 +15,9 @@ use Rattle.relief.specs.Heights.{levelOf, levels}
 use Rattle.relief.specs.Peaks.{Key, missing, key, Entry, ListOf}
 use Rattle.relief.specs.Runs.{Batch, Rest}
 use Rattle.relief.specs.Plane.{Plane, stageOf}
-use Rattle.relief.proofs.Deciding.{true-not-false, and-true}
-use Rattle.relief.proofs.Surveying.{peak?, better?, joined?, keyLevel, entryAt, listed?, survey, survey-list}
-use Rattle.relief.proofs.Batching.{closed?, surveyRest, surveyBatch, survey-rest, survey-batch}
+use Rattle.relief.proofs.Tests.{true-not-false, and-true}
+use Rattle.relief.proofs.Survey.{peak?, better?, joined?, keyLevel, entryAt, listed?, survey, survey-list}
+use Rattle.relief.proofs.BatchSurvey.{closed?, surveyRest, surveyBatch, survey-rest, survey-batch}
 use Rattle.relief.proofs.Plane.{plane?}
 use Rattle.relief.proofs.PlaneRun.{plane-terrain, plane-staged}
 use Rattle.theorems.specs.Grids.{Example, grid, run, HandedOut, Follow, marked}

@@ -3,7 +3,7 @@
 -- `flat` left; `calls-fill` gives the row to `fill` for good, so that what `fill` says of its last list is said of the
 -- call's. What `flat` leaves allows the filling, and makes the promise (`flat-fillable`, `flat-lists`). The answer is
 -- kept in a local, and is returned as it came. Assumes nothing.
-mod Calling
+mod FlatCall
 use mathlib.Core.Path.{refl}
 use mathlib.Core.List.{List, [], _∷_}
 use Prim.Native.Nat.{ℕ, _<_, _^_}
@@ -48,14 +48,14 @@ use Rattle.record.proofs.Peak as T
 use Rattle.record.specs.declared.Handed.{Handed}
 use Rattle.record.proofs.Handed as S
 use Rattle.record.proofs.Handed.Laws as S′
-use Rattle.table.proofs.Filling.{Fill, Filled, fill-known, calls-fill}
+use Rattle.table.proofs.FillCall.{Fill, Filled, fill-known, calls-fill}
 use Rattle.table.proofs.Locals.{localAt, copied, release}
 use Rattle.table.proofs.fill.Symbol.{name as #table·fill}
 use Rattle.table.specs.Table.{countIn, cellsIn}
-use Rattle.table.proofs.Calls.{CellsOf, CountOf, cells-known, count-known, calls-cells, calls-count}
+use Rattle.table.proofs.NumberCalls.{CellsOf, CountOf, cells-known, count-known, calls-cells, calls-count}
 use Rattle.table.proofs.cells_of.Symbol.{name as #table·cells-of}
 use Rattle.table.proofs.count_of.Symbol.{name as #table·count-of}
-use Rattle.list.proofs.list.Proof.Calling.{FlatCall, flat-known, Left, calls-flat}
+use Rattle.list.proofs.list.Proof.FlatCall.{FlatCall, flat-known, Left, calls-flat}
 use Rattle.list.proofs.Answers.{flat-fillable, flat-lists}
 use Rattle.list.proofs.flat.Symbol.{name as #list·flat}
 use Rattle.list.proofs.list.Key.{name as #list·list}

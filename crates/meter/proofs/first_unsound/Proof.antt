@@ -11,7 +11,7 @@ use borrow.Author.Needs.{needs}
 use Rattle.record.specs.declared.Peak.{Peak}
 use Rattle.layout.specs.Sound.{FirstUnsound}
 use Rattle.layout.specs.Steps.{Scans, scannedOf}
-use Rattle.layout.proofs.Sounding.{Scanned, scanned-start, scanned-step, scanned-done}
+use Rattle.layout.proofs.Sound.{Scanned, scanned-start, scanned-step, scanned-done}
 use Rattle.meter.specs.Metered.{peakOf, peaksOf}
 use Rattle.meter.proofs.Peaks.{peaks-length, peaks-at}
 use Rattle.meter.proofs.first_unsound.Statement.{statement}

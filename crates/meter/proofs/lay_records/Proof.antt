@@ -10,7 +10,7 @@ use lib.ListN.{length}
 use Rattle.record.specs.declared.Peak.{Peak}
 use Rattle.layout.specs.Layout.{totalOf, bytesOf, recordOf}
 use Rattle.layout.specs.Steps.{over, Puttable, laid}
-use Rattle.layout.proofs.Pasting.{laid-start, laid-length, laid-step}
+use Rattle.layout.proofs.Over.{laid-start, laid-length, laid-step}
 use Rattle.meter.specs.Metered.{peakOf, peaksOf}
 use Rattle.meter.proofs.Peaks.{peaks-length, peaks-at}
 use Rattle.meter.proofs.lay_records.Statement.{statement}

@@ -5,7 +5,7 @@ use denote.Ref.{now}
 use mir.Syntax.{w64}
 use mir.ValLaws.{toZ-ofZ}
 use borrow.Author.Needs.{needs}
-use Rattle.meter.proofs.Handing.{column-puttable, column-put}
+use Rattle.meter.proofs.ColumnTable.{column-puttable, column-put}
 use Rattle.meter.proofs.meter_column.Statement.{statement}
 use Rattle.meter.proofs.meter_column.Tie as tie
 

@@ -7,7 +7,7 @@ use lib.ListN.{length}
 use mir.Syntax.{w64}
 use mir.ValLaws.{toZ-ofZ}
 use borrow.Author.Needs.{needs}
-use Rattle.meter.proofs.Taking.{file-takable, file-taken}
+use Rattle.meter.proofs.ReadTable.{file-takable, file-taken}
 use Rattle.meter.proofs.meter_read.Statement.{statement}
 use Rattle.meter.proofs.meter_read.Tie as tie
 

@@ -9,7 +9,7 @@ use mir.ValLaws.{toZ-ofZ}
 use borrow.Author.Needs.{needs}
 use Rattle.layout.specs.Steps.{laid}
 use Rattle.meter.specs.Metered.{peaksOf}
-use Rattle.meter.proofs.Writing.{row-few, row-puttable, row-written}
+use Rattle.meter.proofs.Row.{row-few, row-puttable, row-written}
 use Rattle.meter.proofs.meter_write.Statement.{statement}
 use Rattle.meter.proofs.meter_write.Tie as tie
 

@@ -6,7 +6,7 @@ use Prim.Native.Nat.{ℕ, _-_}
 use native.Mathlib.Omega.{arith}
 use denote.Ref.{now}
 use Rattle.layout.specs.Layout.{recordIn, recordsIn}
-use Rattle.layout.proofs.Putting.{Grows, Puts, puts-start, puts-length, puts-step, puts-done}
+use Rattle.layout.proofs.TableBytes.{Grows, Puts, puts-start, puts-length, puts-step, puts-done}
 use Rattle.meter.proofs.take_records.Statement.{statement}
 use Rattle.meter.proofs.take_records.Tie as tie
 

@@ -2,7 +2,7 @@
 -- The grid goes to `column_flat` for good: what that says of its last list is said of the call's. The run record after
 -- the call counts the column that was taken, so it tells the cells that the records stand behind. What `column_flat`
 -- leaves allows the filling, and makes the promise (`column-fillable`, `column-filled`). Assumes nothing.
-mod Calling
+mod FlatCall
 use mathlib.Core.Path.{refl, ap}
 use mathlib.Core.List.{List, [], _∷_}
 use Prim.Native.Nat.{ℕ}
@@ -43,20 +43,20 @@ use denote.Triple.Walked.{goes-none-slice, goes-slice, goes-gave-slice, Walks, e
 use denote.Exit.{yes as kept}
 use Rattle.record.specs.declared.Peak.{Peak}
 use Rattle.record.proofs.Peak as T
-use Rattle.table.proofs.Filling.{Fill, Filled, fill-known, calls-fill}
+use Rattle.table.proofs.FillCall.{Fill, Filled, fill-known, calls-fill}
 use Rattle.table.proofs.Locals.{localAt, copied, release}
 use Rattle.table.proofs.fill.Symbol.{name as #table·fill}
 use Rattle.table.specs.Table.{countIn, cellsIn}
-use Rattle.table.proofs.Calls.{CellsOf, CountOf, cells-known, count-known, calls-cells, calls-count}
+use Rattle.table.proofs.NumberCalls.{CellsOf, CountOf, cells-known, count-known, calls-cells, calls-count}
 use Rattle.table.proofs.cells_of.Symbol.{name as #table·cells-of}
 use Rattle.table.proofs.count_of.Symbol.{name as #table·count-of}
 use Rattle.run.specs.declared.Run.{Run}
 use Rattle.run.specs.declared.Step.{Step}
 use Rattle.run.specs.Running.{takenOf}
-use Rattle.run.proofs.column.Proof.Calling.{FlatCall, flat-known, Left, calls-flat}
+use Rattle.run.proofs.column.Proof.FlatCall.{FlatCall, flat-known, Left, calls-flat}
 use Rattle.run.proofs.Rows.{column-fillable, column-filled}
 use Rattle.run.proofs.Values.{runVal, stepVal, step-is, run-is, handed-is, run-typed, step-typed, handed-typed}
-use Rattle.run.proofs.Calls.{TakenCells, taken-known, calls-taken}
+use Rattle.run.proofs.TakenCall.{TakenCells, taken-known, calls-taken}
 use Rattle.run.proofs.Run as N
 use Rattle.run.proofs.Run.Laws as N′
 use Rattle.run.proofs.Step as U

@@ -1,8 +1,8 @@
 -- `runfile::put_records` meets its contract: its walk (`Proof/Walk.antt`) is taken to the contract. All that is known
 -- of `put_record` is its contract. Assumes nothing.
-mod Ending
-mod Putting
-mod Turning
+mod End
+mod PutCall
+mod Turn
 mod Walk
 use mathlib.Core.Path.{refl}
 use mathlib.Core.List.{[], _∷_}
@@ -30,8 +30,8 @@ use Rattle.layout.specs.Steps.{Puttable}
 use Rattle.layout.proofs.writer.put_record.Symbol as put-one-def
 use Rattle.layout.proofs.writer.put_record.Symbol.{name as #layout·put-record}
 use Rattle.layout.proofs.writer.put_record.Met as put-one-thm
-use Rattle.runfile.proofs.put_records.Proof.Ending.{R, stayed}
-use Rattle.runfile.proofs.put_records.Proof.Putting.{PutOne}
+use Rattle.runfile.proofs.put_records.Proof.End.{R, stayed}
+use Rattle.runfile.proofs.put_records.Proof.PutCall.{PutOne}
 use Rattle.runfile.proofs.put_records.Proof.Walk.{walk}
 use Rattle.runfile.proofs.put_records.Key.{name as #runfile·put-records}
 use Rattle.runfile.proofs.put_records as put

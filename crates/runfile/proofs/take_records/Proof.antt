@@ -1,8 +1,8 @@
 -- `runfile::take_records` meets its contract: its walk (`Proof/Walk.antt`) is taken to the contract. All that is known
 -- of `record_in` is its contract. Assumes nothing.
-mod Ending
-mod Recording
-mod Turning
+mod End
+mod RecordCall
+mod Turn
 mod Walk
 use mathlib.Core.Path.{refl}
 use mathlib.Core.List.{[], _∷_}
@@ -30,8 +30,8 @@ use Rattle.layout.specs.Steps.{Takable}
 use Rattle.layout.proofs.records.record_in.Symbol as record-in-def
 use Rattle.layout.proofs.records.record_in.Symbol.{name as #layout·record-in}
 use Rattle.layout.proofs.records.record_in.Met as record-in-thm
-use Rattle.runfile.proofs.take_records.Proof.Ending.{R, stayed}
-use Rattle.runfile.proofs.take_records.Proof.Recording.{RecordIn}
+use Rattle.runfile.proofs.take_records.Proof.End.{R, stayed}
+use Rattle.runfile.proofs.take_records.Proof.RecordCall.{RecordIn}
 use Rattle.runfile.proofs.take_records.Proof.Walk.{walk}
 use Rattle.runfile.proofs.take_records.Key.{name as #runfile·take-records}
 use Rattle.runfile.proofs.take_records as take

@@ -55,8 +55,8 @@ use Rattle.table.proofs.Locals.{localAt, copied, release}
 use Rattle.layout.specs.declared.Written.{Written}
 use Rattle.layout.specs.Sound.{FirstUnsound}
 use Rattle.layout.specs.Steps.{putOf}
-use Rattle.layout.proofs.Laying.{grid-puttable, grid-written}
-use Rattle.layout.proofs.Sounding.{first-few}
+use Rattle.layout.proofs.Room.{grid-puttable, grid-written}
+use Rattle.layout.proofs.Sound.{first-few}
 use Rattle.layout.proofs.Written as S
 use Rattle.layout.proofs.Written.Laws as S′
 use Rattle.layout.proofs.writer.put_grid.Symbol.{name as #layout·put-grid}

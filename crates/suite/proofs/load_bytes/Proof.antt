@@ -4,7 +4,7 @@
 use Prim.Native.Nat.{_-_}
 use native.Mathlib.Omega.{arith}
 use denote.Ref.{now}
-use Rattle.survey.proofs.Marking.{Loads, loads-start, loads-done}
+use Rattle.survey.proofs.Marks.{Loads, loads-start, loads-done}
 use Rattle.suite.specs.Entry.{heightsOf}
 use Rattle.suite.proofs.Heights.{loads-flip}
 use Rattle.suite.proofs.load_bytes.Statement.{statement}

@@ -1,6 +1,6 @@
 -- `table::fill` meets its contract: its walk (`Proof/Walk.antt`) is taken to the contract. All that is known of
 -- `record_at` is its contract. Assumes nothing.
-mod Recording
+mod RecordCall
 mod Walk
 use mathlib.Core.Path.{refl}
 use mathlib.Core.List.{[], _∷_}
@@ -28,7 +28,7 @@ use Rattle.table.specs.Table.{Fillable}
 use Rattle.table.proofs.record_at.Symbol as record-at-def
 use Rattle.table.proofs.record_at.Symbol.{name as #table·record-at}
 use Rattle.table.proofs.record_at.Met as record-at-thm
-use Rattle.table.proofs.fill.Proof.Recording.{RecordAt}
+use Rattle.table.proofs.fill.Proof.RecordCall.{RecordAt}
 use Rattle.table.proofs.fill.Proof.Walk.{R, stayed, walk}
 use Rattle.table.proofs.fill.Key.{name as #table·fill}
 use Rattle.table.proofs.fill as fill

@@ -12,9 +12,9 @@ use Rattle.layout.specs.declared.ReadBack.the-variants.{Refused}
 use Rattle.layout.specs.Layout.{rowsIn, peaksIn, cellsIn, heightsIn, recordsIn}
 use Rattle.layout.specs.Reading.{miscounted}
 use Rattle.layout.specs.Sound.{FirstUnsound}
-use Rattle.layout.proofs.Reading.{Gridded, Whole, read-short, read-none, read-many, read-cells, read-counts}
-use Rattle.layout.proofs.Reading.{read-total, read-unsound, read-room, read-table, read-run, counted-not}
-use Rattle.layout.proofs.Reading.{judged}
+use Rattle.layout.proofs.ReadAnswer.{Gridded, Whole, read-short, read-none, read-many, read-cells, read-counts}
+use Rattle.layout.proofs.ReadAnswer.{read-total, read-unsound, read-room, read-table, read-run, counted-not}
+use Rattle.layout.proofs.ReadAnswer.{judged}
 use Rattle.layout.proofs.reader.judge.Statement.{statement}
 use Rattle.layout.proofs.reader.judge.Tie as tie
 

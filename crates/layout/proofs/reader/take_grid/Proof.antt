@@ -13,7 +13,7 @@ use Rattle.layout.specs.declared.ReadBack.the-variants.{Run, Refused}
 use Rattle.layout.specs.Layout.{cellsIn, heightsIn}
 use Rattle.layout.specs.Reading.{Judges, lentOf}
 use Rattle.layout.specs.Steps.{cellsToTake}
-use Rattle.layout.proofs.Reading.{read-readable, read-same}
+use Rattle.layout.proofs.ReadAnswer.{read-readable, read-same}
 use Rattle.layout.proofs.reader.take_grid.Statement.{statement}
 use Rattle.layout.proofs.reader.take_grid.Tie as tie
 

@@ -6,7 +6,7 @@ use mir.Syntax.{w32}
 use mir.ValLaws.{toZ-ofZ}
 use borrow.Author.Needs.{needs}
 use Rattle.layout.specs.Layout.{bitsOf}
-use Rattle.layout.proofs.Putting.{record-put}
+use Rattle.layout.proofs.TableBytes.{record-put}
 use Rattle.layout.proofs.records.lay_record.Statement.{statement}
 use Rattle.layout.proofs.records.lay_record.Tie as tie
 

@@ -6,7 +6,7 @@ use native.Mathlib.Omega.{arith}
 use denote.Ref.{now}
 use Rattle.table.proofs.Laws.{counted-pointed}
 use Rattle.table.specs.Table.{recordsIn}
-use Rattle.layout.proofs.Putting.{Puts, records-grow, puts-start, puts-length, puts-step, puts-done}
+use Rattle.layout.proofs.TableBytes.{Puts, records-grow, puts-start, puts-length, puts-step, puts-done}
 use Rattle.layout.proofs.records.lay_records.Statement.{statement}
 use Rattle.layout.proofs.records.lay_records.Tie as tie
 

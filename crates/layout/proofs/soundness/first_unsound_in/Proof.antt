@@ -13,7 +13,7 @@ use Rattle.record.specs.declared.Peak.{Peak}
 use Rattle.layout.specs.Layout.{heightsIn, recordIn, recordsIn}
 use Rattle.layout.specs.Sound.{Sound, recordAt}
 use Rattle.layout.proofs.Rows.{records-length, records-at}
-use Rattle.layout.proofs.Sounding.{Scan, scan-start, scan-step, scan-stop, scan-done}
+use Rattle.layout.proofs.Sound.{Scan, scan-start, scan-step, scan-stop, scan-done}
 use Rattle.layout.proofs.soundness.first_unsound_in.Statement.{statement}
 use Rattle.layout.proofs.soundness.first_unsound_in.Tie as tie
 

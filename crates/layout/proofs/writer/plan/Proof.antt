@@ -6,8 +6,8 @@ use native.Mathlib.Omega.{arith}
 use borrow.Author.Needs.{needs}
 use Rattle.record.specs.declared.Refusal.the-variants.{Unsound, Room}
 use Rattle.layout.specs.declared.Written.the-variants.{Bytes, Refused}
-use Rattle.layout.proofs.Writing.{write-none, write-many, write-length, write-cells, write-unsound}
-use Rattle.layout.proofs.Writing.{write-room, write-bytes}
+use Rattle.layout.proofs.WriteAnswer.{write-none, write-many, write-length, write-cells, write-unsound}
+use Rattle.layout.proofs.WriteAnswer.{write-room, write-bytes}
 use Rattle.layout.proofs.writer.plan.Statement.{statement}
 use Rattle.layout.proofs.writer.plan.Tie as tie
 

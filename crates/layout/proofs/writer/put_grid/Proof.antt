@@ -10,9 +10,9 @@ use lib.ListN.{length}
 use borrow.Author.Needs.{needs}
 use Rattle.layout.specs.Layout.{bitsOf, bytesOf, headerOf}
 use Rattle.layout.specs.Steps.{over}
-use Rattle.layout.proofs.Pasting.{over-over}
+use Rattle.layout.proofs.Over.{over-over}
 use Rattle.layout.proofs.Rows.{bytes-length, bytes-append}
-use Rattle.layout.proofs.Writing.{Writable, written-writable}
+use Rattle.layout.proofs.WriteAnswer.{Writable, written-writable}
 use Rattle.layout.proofs.writer.put_grid.Statement.{statement}
 use Rattle.layout.proofs.writer.put_grid.Tie as tie
 

@@ -8,7 +8,7 @@ use native.Mathlib.Omega.{arith}
 use denote.Ref.{now}
 use borrow.Author.Needs.{needs}
 use Rattle.layout.specs.Layout.{headerOf, totalOf}
-use Rattle.layout.proofs.Pasting.{over-nil, over-next}
+use Rattle.layout.proofs.Over.{over-nil, over-next}
 use Rattle.layout.proofs.writer.put_header.Statement.{statement}
 use Rattle.layout.proofs.writer.put_header.Tie as tie
 

@@ -8,7 +8,7 @@ use mir.Syntax.{w32}
 use mir.ValLaws.{toZ-ofZ}
 use borrow.Author.Needs.{needs}
 use Rattle.layout.specs.Layout.{bitsOf, recordOf, totalOf}
-use Rattle.layout.proofs.Pasting.{over-nil, over-next}
+use Rattle.layout.proofs.Over.{over-nil, over-next}
 use Rattle.layout.proofs.writer.put_record.Statement.{statement}
 use Rattle.layout.proofs.writer.put_record.Tie as tie
 

@@ -54,17 +54,17 @@ use Rattle.record.proofs.Peak as T
 use Rattle.record.proofs.Peak.Laws as T′
 use Rattle.record.specs.Records.{withoutKey}
 use Rattle.table.proofs.Locals.{localAt, copied, release}
-use Rattle.table.proofs.Turning.{bytes-fit}
+use Rattle.table.proofs.Upto.{bytes-fit}
 use Rattle.layout.specs.Sound.{recordAt}
 use Rattle.layout.specs.Steps.{scannedOf}
-use Rattle.layout.proofs.Sounding.{scanned-step, scanned-done}
+use Rattle.layout.proofs.Sound.{scanned-step, scanned-done}
 use Rattle.layout.proofs.soundness.scan.Symbol.{name as #layout·scan}
 use Rattle.layout.proofs.soundness.scanned.Symbol.{name as #layout·scanned}
 use Rattle.runfile.proofs.first_unsound as unsound
-use Rattle.runfile.proofs.first_unsound.Proof.Ending.{R, recordsVal, Recs, args, vals, Ended, exits}
-use Rattle.runfile.proofs.first_unsound.Proof.Scanning.{ScanC, ScannedC, heightsVal, Hts, calls-scan}
-use Rattle.runfile.proofs.first_unsound.Proof.Scanning.{calls-scanned}
-use Rattle.runfile.proofs.first_unsound.Proof.Turning.{Turn, start, Nearer, Nearer-wf, few, next-fits}
+use Rattle.runfile.proofs.first_unsound.Proof.End.{R, recordsVal, Recs, args, vals, Ended, exits}
+use Rattle.runfile.proofs.first_unsound.Proof.ScanCalls.{ScanC, ScannedC, heightsVal, Hts, calls-scan}
+use Rattle.runfile.proofs.first_unsound.Proof.ScanCalls.{calls-scanned}
+use Rattle.runfile.proofs.first_unsound.Proof.Turn.{Turn, start, Nearer, Nearer-wf, few, next-fits}
 use Rattle.runfile.proofs.first_unsound.Code as code
 use Rattle.runfile.proofs.first_unsound.Code.Mir as body
 

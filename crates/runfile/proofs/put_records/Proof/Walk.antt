@@ -50,16 +50,16 @@ use Rattle.record.specs.declared.Peak.{Peak}
 use Rattle.record.proofs.Peak as T
 use Rattle.record.proofs.Peak.Laws as T′
 use Rattle.table.proofs.Locals.{localAt, copied, release}
-use Rattle.table.proofs.Turning.{Upto, Nearer, Nearer-wf}
+use Rattle.table.proofs.Upto.{Upto, Nearer, Nearer-wf}
 use Rattle.layout.specs.Layout.{totalOf}
 use Rattle.layout.specs.Steps.{Puttable, laid}
-use Rattle.layout.proofs.Pasting.{laid-start}
+use Rattle.layout.proofs.Over.{laid-start}
 use Rattle.layout.proofs.writer.put_record.Symbol.{name as #layout·put-record}
 use Rattle.runfile.proofs.put_records as put
-use Rattle.runfile.proofs.put_records.Proof.Ending.{R, recordsVal, Recs, args, vals, Ended, exits}
-use Rattle.runfile.proofs.put_records.Proof.Putting.{PutOne, RoomAt, calls-put}
-use Rattle.runfile.proofs.put_records.Proof.Turning.{none, at-length, within, enough}
-use Rattle.runfile.proofs.put_records.Proof.Turning.{next-is}
+use Rattle.runfile.proofs.put_records.Proof.End.{R, recordsVal, Recs, args, vals, Ended, exits}
+use Rattle.runfile.proofs.put_records.Proof.PutCall.{PutOne, RoomAt, calls-put}
+use Rattle.runfile.proofs.put_records.Proof.Turn.{none, at-length, within, enough}
+use Rattle.runfile.proofs.put_records.Proof.Turn.{next-is}
 use Rattle.runfile.proofs.put_records.Code as code
 use Rattle.runfile.proofs.put_records.Code.Mir as body
 

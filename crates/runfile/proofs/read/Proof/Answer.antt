@@ -15,7 +15,7 @@ use Rattle.layout.specs.declared.ReadBack.the-variants.{Run, Refused}
 use Rattle.layout.specs.Layout.{peaksIn, cellsIn, recordsIn}
 use Rattle.layout.specs.Reading.{Judges, lentOf}
 use Rattle.layout.specs.Steps.{Takable, cellsToTake, recordsToTake, filled}
-use Rattle.layout.proofs.Reading.{read-readable, read-same}
+use Rattle.layout.proofs.ReadAnswer.{read-readable, read-same}
 
 module _ (f : List ℕ) (heights : ℕ) (ps : List Peak) where
   pub takable : (a : ReadBack) → Judges f heights (length ps) a → Takable ps f (cellsToTake a) (recordsToTake a)

@@ -50,16 +50,16 @@ use Rattle.record.specs.declared.Peak.{Peak}
 use Rattle.record.proofs.Peak as T
 use Rattle.record.proofs.Peak.Laws as T′
 use Rattle.table.proofs.Locals.{localAt, copied, release}
-use Rattle.table.proofs.Turning.{Upto, Nearer, Nearer-wf, bytes-fit, next-fits}
+use Rattle.table.proofs.Upto.{Upto, Nearer, Nearer-wf, bytes-fit, next-fits}
 use Rattle.layout.specs.Layout.{recordIn}
 use Rattle.layout.specs.Steps.{Takable, filled}
 use Rattle.layout.proofs.Rows.{filled-start, filled-step}
 use Rattle.layout.proofs.records.record_in.Symbol.{name as #layout·record-in}
 use Rattle.runfile.proofs.take_records as take
-use Rattle.runfile.proofs.take_records.Proof.Ending.{R, args, vals, Ended, exits}
-use Rattle.runfile.proofs.take_records.Proof.Recording.{RecordIn, fileVal, File, calls-record}
-use Rattle.runfile.proofs.take_records.Proof.Turning.{long, within, at-length}
-use Rattle.runfile.proofs.take_records.Proof.Turning.{within-at}
+use Rattle.runfile.proofs.take_records.Proof.End.{R, args, vals, Ended, exits}
+use Rattle.runfile.proofs.take_records.Proof.RecordCall.{RecordIn, fileVal, File, calls-record}
+use Rattle.runfile.proofs.take_records.Proof.Turn.{long, within, at-length}
+use Rattle.runfile.proofs.take_records.Proof.Turn.{within-at}
 use Rattle.runfile.proofs.take_records.Code as code
 use Rattle.runfile.proofs.take_records.Code.Mir as body
 

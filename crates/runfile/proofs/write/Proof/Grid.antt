@@ -43,7 +43,7 @@ use denote.Triple.Clauses.{Lasts, ensured, lasts}
 use denote.Triple.Spec.{tripleOf}
 use denote.Triple.Table.{cited}
 use denote.Triple.Walked.{says}
-use Rattle.table.proofs.Again.{LentMut, lends-again, comes-back}
+use Rattle.table.proofs.LentAgain.{LentMut, lends-again, comes-back}
 use Rattle.layout.specs.declared.Written.{Written}
 use Rattle.layout.specs.Steps.{Few, GridPut}
 use Rattle.layout.proofs.Written as S

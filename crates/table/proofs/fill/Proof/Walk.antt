@@ -60,10 +60,10 @@ use Rattle.record.proofs.Peak.Laws as T′
 use Rattle.table.specs.Table.{Fillable}
 use Rattle.table.proofs.Laws.{counted-pointed, filled, filled-start, filled-step, filled-length}
 use Rattle.table.proofs.Locals.{localAt, copied, release}
-use Rattle.table.proofs.Turning.{Upto, Nearer, Nearer-wf, bytes-fit, next-fits}
+use Rattle.table.proofs.Upto.{Upto, Nearer, Nearer-wf, bytes-fit, next-fits}
 use Rattle.table.proofs.record_at.Symbol.{name as #table·record-at}
 use Rattle.table.proofs.fill as fill
-use Rattle.table.proofs.fill.Proof.Recording.{RecordAt, found, calls-record}
+use Rattle.table.proofs.fill.Proof.RecordCall.{RecordAt, found, calls-record}
 use Rattle.table.proofs.fill.Code as code
 use Rattle.table.proofs.fill.Code.Mir as body
 
