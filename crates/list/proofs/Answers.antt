@@ -13,7 +13,8 @@ use lib.ListN.{length, drop}
 use borrow.Author.Tests.{eq-eqb, ne-eqb, lt-ltb, le-ltb}
 use Rattle.relief.specs.Heights.{levels}
 use Rattle.relief.specs.Peaks.{Entry, Listed, ListOf}
-use Rattle.relief.specs.Plane.{Plane}
+use Rattle.relief.specs.Plane.{planeOf, touchOf}
+use Rattle.relief.specs.Inner.{cut}
 use Rattle.relief.proofs.Lists.{order-unique}
 use Rattle.relief.proofs.Survey.{survey, survey-list}
 use Rattle.relief.proofs.Plane.{plane?}
@@ -26,7 +27,6 @@ use Rattle.record.specs.declared.Refusal.the-variants.{Rows, Length, Cells, Wor
 use Rattle.record.specs.Records.{recordOf}
 use Rattle.record.proofs.Refusals.{rows-none, rows-many, rows-right}
 use Rattle.words.specs.Area.{levelIn}
-use Rattle.sweep.specs.Taking.{cut}
 use Rattle.table.specs.Table.{Counted, recordsIn, Fillable, countIn, cellsIn, tableAfter, Unused}
 use Rattle.table.proofs.Handed.{
   handed-fillable,
@@ -46,10 +46,10 @@ use Rattle.list.specs.Listing.{listAnswer, Lists, Flat}
 -- ---- the list
 
 list-right : {rows T : ℕ} {heights : List ℤ} {s t left : List ℕ} {k : ℕ} → Loaded s t heights (length heights)
-    → Answered t left (length heights) (Listed (Plane rows) (cut (length heights) (levelIn t)) T) k
-    → ListOf (Plane rows) (levels heights) T (entriesIn left (length heights) k)
+    → Answered t left (length heights) (Listed (touchOf (planeOf rows)) (cut (length heights) (levelIn t)) T) k
+    → ListOf (touchOf (planeOf rows)) (levels heights) T (entriesIn left (length heights) k)
 list-right {rows} {T} {heights} {s} {t} {left} {k} loaded made =
-    subst (λ (L : ℕ → ℕ). ListOf (Plane rows) L T (entriesIn left (length heights) k)) (loaded-levels refl loaded)
+    subst (λ (L : ℕ → ℕ). ListOf (touchOf (planeOf rows)) L T (entriesIn left (length heights) k)) (loaded-levels refl loaded)
     (made .order)
 
 list-length : (left : List ℕ) (n k : ℕ) → length (entriesIn left n k) ≡ k
@@ -136,7 +136,7 @@ module _ {rows : ℕ} {heights : List ℤ} {T room : ℕ} {work left : List ℕ}
 
           module _ (space : 16 * length heights ≤ length work) {s t : List ℕ} {k : ℕ}
               (loaded : Loaded s t heights (length heights)) (made : Answered t left (length heights)
-              (Listed (Plane rows) (cut (length heights) (levelIn t)) T) k) where
+              (Listed (touchOf (planeOf rows)) (cut (length heights) (levelIn t)) T) k) where
             pub flat-short : {m : ℕ} → m ≡ k → room < k → Flat rows heights T work room left (Refused (Table m))
             flat-short e l = record {
               list = entriesIn left (length heights) k;

@@ -13,7 +13,7 @@ use lib.IntN.{ℤ}
 use lib.ListN.{length}
 use Rattle.relief.specs.Heights.{levels}
 use Rattle.relief.specs.Peaks.{Entry, ListOf}
-use Rattle.relief.specs.Plane.{Plane}
+use Rattle.relief.specs.Plane.{planeOf, touchOf}
 use Rattle.record.specs.declared.Peak.{Peak}
 use Rattle.record.specs.declared.Handed.{Handed}
 use Rattle.record.specs.declared.Handed.the-variants.{Count, Refused}
@@ -41,7 +41,7 @@ listAnswer rows cells work room needed =
 pub record Lists (rows : ℕ) (heights : List ℤ) (T : ℕ) (work work′ : List ℕ) (table table′ : List Peak)
     (answer : Handed) : Type 0 where
   pub list : List Entry
-  pub right : ListOf (Plane rows) (levels heights) T list
+  pub right : ListOf (touchOf (planeOf rows)) (levels heights) T list
   pub answered : answer ≡ listAnswer rows (length heights) (length work) (length table) (length list)
   pub filled : table′ ≡ tableAfter answer (map recordOf list) table
   pub unused : Unused answer work work′
@@ -50,7 +50,7 @@ pub record Lists (rows : ℕ) (heights : List ℤ) (T : ℕ) (work work′ : Lis
 pub record Flat (rows : ℕ) (heights : List ℤ) (T : ℕ) (work : List ℕ) (room : ℕ) (left : List ℕ)
     (answer : Handed) : Type 0 where
   pub list : List Entry
-  pub right : ListOf (Plane rows) (levels heights) T list
+  pub right : ListOf (touchOf (planeOf rows)) (levels heights) T list
   pub answered : answer ≡ listAnswer rows (length heights) (length work) room (length list)
   pub counted : (n : ℕ) → answer ≡ Count n → Counted left (length heights) n × (n ≤ room)
   pub records : (n : ℕ) → answer ≡ Count n → recordsIn left (length heights) n ≡ map recordOf list

@@ -15,7 +15,7 @@ use lib.IntN.{ℤ}
 use lib.ListN.{length, drop}
 use Rattle.relief.specs.Peaks.{Entry}
 use Rattle.relief.specs.Runs.{Batch}
-use Rattle.relief.specs.Plane.{Plane, stageOf}
+use Rattle.relief.specs.Plane.{planeOf, touchOf, stageOf}
 use Rattle.record.specs.declared.Peak.{Peak}
 use Rattle.record.specs.Records.{recordOf}
 use Rattle.record.specs.declared.Handed.{Handed}
@@ -45,8 +45,8 @@ pub record MeterColumns (rows columns T : ℕ) (column grid grid′ : List ℤ) 
     (answer : ℤ) : Type 0 where
   pub batch : List Entry
   pub handed : Handed
-  pub right : Batch (Plane rows) (stageOf rows columns (heightsWith (openRun rows columns T) column grid))
-      (stageOf rows (suc columns) (heightsWith (openRun rows columns T) column grid)) T batch
+  pub right : Batch (touchOf (planeOf rows)) (stageOf (planeOf rows) columns (heightsWith (openRun rows columns T) column grid))
+      (stageOf (planeOf rows) (suc columns) (heightsWith (openRun rows columns T) column grid)) T batch
   pub answered : answer ≡ handedNumber handed
   pub called : handed ≡ handedAnswer (columnCheck (openRun rows columns T) (length column) (length grid) work)
       (length table / 16) (length batch)

@@ -13,18 +13,9 @@ use native.Mathlib.Omega.{arith}
 use lib.Dec.{ltb}
 use Rattle.relief.specs.Peaks.{Entry, floorOf}
 use Rattle.relief.specs.Runs.{Stage, Closed, Closing, Batch, Remaining, Rest}
-use Rattle.relief.proofs.Tests.{
-  split,
-  Decides,
-  decide,
-  allBelow,
-  le-or-lt,
-  lt-decides,
-  and-decides,
-  not-decides,
-  all-decides,
-  decides-iff,
-}
+use Rattle.relief.specs.Inner.{Decides}
+use Rattle.relief.proofs.Tests.{split, decide, allBelow, le-or-lt, lt-decides, and-decides, not-decides}
+use Rattle.relief.proofs.Tests.{all-decides, decides-iff}
 use Rattle.relief.proofs.Ways.{way-end}
 use Rattle.relief.proofs.Flats.{Terrain, land-below}
 use Rattle.relief.proofs.Keys.{island?, island-decides}

@@ -14,7 +14,8 @@ use Prim.Native.Nat.{ℕ, zero, suc, _≤_, _<_}
 use native.Mathlib.Omega.{arith}
 use Rattle.relief.specs.Peaks.{Entry, Listed, Member, ListOf}
 use Rattle.relief.specs.Runs.{Stage, Closed, Batch, Rest, Growing}
-use Rattle.relief.proofs.Tests.{split, Decides, below-suc}
+use Rattle.relief.specs.Inner.{Decides}
+use Rattle.relief.proofs.Tests.{split, below-suc}
 use Rattle.relief.proofs.Flats.{land-below}
 use Rattle.relief.proofs.Lists.{entry-unique}
 use Rattle.relief.proofs.BatchSurvey.{Staged, closed-told}

@@ -13,17 +13,10 @@ use Prim.Native.Nat.{ℕ, zero, suc, _+_, _≤_, _<_, zero-le}
 use native.Mathlib.Omega.{arith}
 use Rattle.relief.specs.Peaks.{Key, missing, key, Entry, floorOf, KeyOf, PeakEntry, PassCell, Member, Rising}
 use Rattle.relief.specs.Peaks.{InReadingOrder}
-use Rattle.relief.proofs.Tests.{split, Decides, below-suc}
+use Rattle.relief.specs.Inner.{Decides, Best}
+use Rattle.relief.proofs.Tests.{split, below-suc}
 use Rattle.relief.proofs.Flats.{Terrain}
-use Rattle.relief.proofs.Keys.{
-  key-unique,
-  key-exclusive,
-  pass-unique,
-  key-below,
-  Best,
-  best-of-key,
-  best-of-none,
-}
+use Rattle.relief.proofs.Keys.{key-unique, key-exclusive, pass-unique, key-below, best-of-key, best-of-none}
 
 -- ---- a peak has one entry
 

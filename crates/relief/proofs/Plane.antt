@@ -14,16 +14,8 @@ use native.Mathlib.Omega.{arith}
 use lib.Dec.{eqb, leb}
 use lib.ListN.{getD}
 use Rattle.relief.specs.Plane.{rowOf, columnOf, Near, Plane}
-use Rattle.relief.proofs.Tests.{
-  split,
-  Decides,
-  and-decides,
-  not-decides,
-  le-decides,
-  eq-decides,
-  decides-iff,
-  le-or-lt,
-}
+use Rattle.relief.specs.Inner.{Decides}
+use Rattle.relief.proofs.Tests.{split, and-decides, not-decides, le-decides, eq-decides, decides-iff, le-or-lt}
 
 abbrev near? : ℕ → ℕ → Bool
 near? x y = leb x (suc y) && leb y (suc x)

@@ -30,7 +30,7 @@ use lib.ListN.{
 use lib.Seq.{getD-take, getD-append-add}
 use Rattle.relief.specs.Heights.{BLANK, levelOf, heightOf, levels}
 use Rattle.relief.specs.Peaks.{Island, Entry, floorOf}
-use Rattle.relief.specs.Plane.{rowOf, columnOf, Plane, stageOf}
+use Rattle.relief.specs.Plane.{rowOf, columnOf, Plane, planeOf, stageOf}
 use Rattle.relief.specs.Runs.{Open, Further, Growing, KeyKept}
 use Rattle.relief.proofs.Tests.{split, decide, le-or-lt, le-decides, and-decides, any-decides}
 use Rattle.relief.proofs.Ways.{way-end}
@@ -52,7 +52,7 @@ plane-terrain rows heights = record {
 }
 
 pub plane-staged : (rows columns : ℕ) (heights : List ℤ)
-    → Staged (Plane rows) (plane? rows) (stageOf rows columns heights)
+    → Staged (Plane rows) (plane? rows) (stageOf (planeOf rows) columns heights)
 plane-staged rows columns heights = record {
   symmetric = plane-symmetric rows;
   decides = plane-decides rows;
@@ -65,7 +65,7 @@ pub levels-take : (heights : List ℤ) (n c : ℕ) → c < n → levels (take n 
 unfolding levels
 levels-take heights n c l = ap levelOf (getD-take n heights c BLANK l)
 
-pub plane-growing : (rows : ℕ) (heights : List ℤ) → Growing (Plane rows) (λ j. stageOf rows j heights)
+pub plane-growing : (rows : ℕ) (heights : List ℤ) → Growing (Plane rows) (λ j. stageOf (planeOf rows) j heights)
 plane-growing rows heights = record {
   start = zero-mul rows;
   further = λ j.
@@ -101,7 +101,7 @@ heightOf-level l h = go (leb 2147483648 l) refl
 
 module _ (rows columns : ℕ) (heights : List ℤ) (whole : length heights ≡ columns * rows) where
   -- an open peak's island has a cell in the last column
-  open-newest : (e : Entry) → Open (Plane rows) (stageOf rows columns heights) e
+  open-newest : (e : Entry) → Open (Plane rows) (stageOf (planeOf rows) columns heights) e
       → (c : ℕ) × (c < columns * rows)
       × (Island (Plane rows) (levels (take (columns * rows) heights)) (e .cell) (floorOf (e .key)) c
       × (columns * rows - rows ≤ c))
@@ -122,7 +122,7 @@ module _ (rows columns : ℕ) (heights : List ℤ) (whole : length heights ≡ c
     grown : List ℤ
     grown = heights ++ replicate rows z
 
-    grown-further : Further (Plane rows) (stageOf rows columns heights) (stageOf rows (suc columns) grown)
+    grown-further : Further (Plane rows) (stageOf (planeOf rows) columns heights) (stageOf (planeOf rows) (suc columns) grown)
     unfolding grown levels
     grown-further =
         let m = suc-mul columns rows in
@@ -139,7 +139,7 @@ module _ (rows columns : ℕ) (heights : List ℤ) (whole : length heights ≡ c
           ends-after = plane-staged rows (suc columns) (heights ++ replicate rows z) .ends;
         }
 
-    grown-level : (i : ℕ) → i < rows → stageOf rows (suc columns) grown .level (columns * rows + i) ≡ levelOf z
+    grown-level : (i : ℕ) → i < rows → stageOf (planeOf rows) (suc columns) grown .level (columns * rows + i) ≡ levelOf z
     unfolding grown levels
     grown-level i l =
         let m = suc-mul columns rows in
@@ -148,8 +148,8 @@ module _ (rows columns : ℕ) (heights : List ℤ) (whole : length heights ≡ c
         ∙ ap (λ (n : ℕ). getD (heights ++ replicate rows z) (n + i) BLANK) (sym whole)
         ∙ getD-append-add heights (replicate rows z) i BLANK ∙ getD-replicate rows i z BLANK l)
 
-    pub plane-open : (e : Entry) → Open (Plane rows) (stageOf rows columns heights) e → e .level < levelOf z
-        → KeyKept (Plane rows) (stageOf rows (suc columns) (heights ++ replicate rows z)) e → ⊥
+    pub plane-open : (e : Entry) → Open (Plane rows) (stageOf (planeOf rows) columns heights) e → e .level < levelOf z
+        → KeyKept (Plane rows) (stageOf (planeOf rows) (suc columns) (heights ++ replicate rows z)) e → ⊥
     unfolding grown
     plane-open e o l kept =
         let (c, h, (w, n)) = open-newest e o in
@@ -159,8 +159,8 @@ module _ (rows columns : ℕ) (heights : List ℤ) (whole : length heights ≡ c
         (λ q. q) in
         let m = suc-mul columns rows in
         let i : c + rows ≡ columns * rows + (c + rows - columns * rows) = omega arith in
-        let v : stageOf rows (suc columns) grown .level (c + rows) ≡ levelOf z =
-        subst (λ (d : ℕ). stageOf rows (suc columns) grown .level d ≡ levelOf z) (sym i)
+        let v : stageOf (planeOf rows) (suc columns) grown .level (c + rows) ≡ levelOf z =
+        subst (λ (d : ℕ). stageOf (planeOf rows) (suc columns) grown .level d ≡ levelOf z) (sym i)
         (grown-level (c + rows - columns * rows) (omega arith)) in
         let k = o .right .height in
         open-changes (plane-staged rows columns heights) (plane-staged rows (suc columns) grown)

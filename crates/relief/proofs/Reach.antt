@@ -10,15 +10,8 @@ use Prim.Native.Nat.{ℕ, zero, suc, _<_}
 use native.Mathlib.Nat.{not-suc-le-zero}
 use lib.Dec.{eqb}
 use Rattle.relief.specs.Peaks.{Way, alone, onward}
-use Rattle.relief.proofs.Tests.{
-  split,
-  Decides,
-  and-decides,
-  or-decides,
-  decides-iff,
-  eq-decides,
-  below-suc,
-}
+use Rattle.relief.specs.Inner.{Decides}
+use Rattle.relief.proofs.Tests.{split, and-decides, or-decides, decides-iff, eq-decides, below-suc}
 use Rattle.relief.proofs.Ways.{way-start, way-trans}
 
 abbrev pub reach : (ℕ → ℕ → Bool) → (ℕ → Bool) → ℕ → ℕ → ℕ → Bool

@@ -13,39 +13,14 @@ use native.Mathlib.Omega.{arith}
 use lib.Dec.{eqb, leb, ltb}
 use Rattle.relief.specs.Peaks.{Way, Flat, Peak, Key, missing, key, Entry, Wanted, KeyOf, PeakEntry, Listed}
 use Rattle.relief.specs.Peaks.{KeyHeight, NoKey, ListOf}
-use Rattle.relief.proofs.Tests.{
-  split,
-  Decides,
-  passes,
-  true-not-false,
-  anyBelow,
-  allBelow,
-  topBelow,
-  top-below,
-  le-or-lt,
-  eq-decides,
-  le-decides,
-  lt-decides,
-  and-decides,
-  or-decides,
-  any-decides,
-  all-decides,
-  decides-iff,
-}
+use Rattle.relief.specs.Inner.{Decides, Better, above, before, Best}
+use Rattle.relief.proofs.Tests.{split, passes, true-not-false, anyBelow, allBelow, topBelow, top-below, le-or-lt}
+use Rattle.relief.proofs.Tests.{eq-decides, le-decides, lt-decides, and-decides, or-decides, any-decides}
+use Rattle.relief.proofs.Tests.{all-decides, decides-iff}
 use Rattle.relief.proofs.Ways.{way-end, way-mono, least-below, least-attained, path-of-way}
 use Rattle.relief.proofs.Reach.{reach, way-decides}
-use Rattle.relief.proofs.Flats.{
-  Terrain,
-  land-below,
-  Better,
-  above,
-  before,
-  flat?,
-  flat-land,
-  flat-decides,
-  peak-not-better,
-}
-use Rattle.relief.proofs.Keys.{Best, key-of-best, none-of-best, pass, pass-exists}
+use Rattle.relief.proofs.Flats.{Terrain, land-below, flat?, flat-land, flat-decides, peak-not-better}
+use Rattle.relief.proofs.Keys.{key-of-best, none-of-best, pass, pass-exists}
 use Rattle.relief.proofs.Lists.{entry-unique, collect, collect-order}
 
 -- ---- the tests

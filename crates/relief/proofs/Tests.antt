@@ -1,6 +1,5 @@
 -- Tests that compute, and what they decide: each test of this crate is a Bool with a law that says what it tells.
 --     split s f g              goes by the two cases of a sum
---     Decides A b              the test b tells whether A holds
 --     and, or, not             decide a pair, a sum, a negation
 --     anyBelow n f, allBelow   decide whether some or each number below n passes the test f
 --     firstFrom k i f          the first of the k numbers from i on that passes, or i + k
@@ -15,14 +14,11 @@ use native.Mathlib.Omega.{arith}
 use native.Mathlib.Decide.{ℕ-discrete, decLt}
 use lib.Dec.{T, eqb, leb, ltb}
 use borrow.Author.Tests.{eqb-true, eqb-false, leb-true, leb-false, ltb-true, ltb-false, not-true, not-false}
+use Rattle.relief.specs.Inner.{Decides}
 
 pub split : {A B C : Type 0} → A ⊎ B → (A → C) → (B → C) → C
 split (inl a) f g = f a
 split (inr b) f g = g b
-
-pub record Decides (A : Type 0) (b : Bool) : Type 0 where
-  pub holds : b ≡ true → A
-  pub fails : b ≡ false → A → ⊥
 
 -- the two cases of a decided statement, and of a test
 pub decide : {A : Type 0} {b : Bool} → Decides A b → A ⊎ (A → ⊥)

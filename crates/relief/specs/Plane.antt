@@ -1,4 +1,4 @@
--- Plane touching: section "Grid, cells and heights" of document 01. Assumes nothing.
+-- Plane touching, and the shape of a grid: section "Grid, cells and heights" of document 01. Assumes nothing.
 use mathlib.Core.{Path._≡_, List.List}
 use Prim.Native.Nat.{ℕ, suc, _-_, _*_, _/_, _%_, _≤_}
 use lib.{IntN.ℤ, ListN.take}
@@ -22,7 +22,25 @@ pub record Plane (rows a b : ℕ) : Type 0 where
   pub column : Near (columnOf rows a) (columnOf rows b)
   pub other : a ≡ b → ⊥
 
+-- How the cells of a grid lie: in so many rows.
+pub record Shape : Type 0 where
+  pub rows : ℕ
+
+abbrev pub planeOf : ℕ → Shape
+planeOf rows = record { rows = rows }
+
+-- Which cells of a grid of this shape touch.
+abbrev pub touchOf : Shape → ℕ → ℕ → Type 0
+touchOf shape = Plane (shape .rows)
+
+-- "the last column" of so many cells: those from here on.
+abbrev pub newestOf : Shape → ℕ → ℕ
+newestOf shape cells = cells - shape .rows
+
 -- "a run growing by columns": of the heights in reading order, the first columns.
-abbrev pub stageOf : ℕ → ℕ → List ℤ → Stage
-stageOf rows columns heights =
-    record { level = levels (take (columns * rows) heights); cells = columns * rows; newest = columns * rows - rows }
+abbrev pub stageOf : Shape → ℕ → List ℤ → Stage
+stageOf shape columns heights = record {
+  level = levels (take (columns * shape .rows) heights);
+  cells = columns * shape .rows;
+  newest = newestOf shape (columns * shape .rows);
+}

@@ -14,7 +14,7 @@ use lib.IntN.{ℤ}
 use lib.ListN.{length}
 use lib.Seq.{paste, length-paste}
 use Rattle.relief.specs.Runs.{Closing, Remaining}
-use Rattle.relief.specs.Plane.{Plane}
+use Rattle.relief.specs.Plane.{Plane, planeOf, touchOf}
 use Rattle.record.specs.declared.Refusal.the-variants.{Table}
 use Rattle.record.specs.declared.Handed.the-variants.{Count, Refused}
 use Rattle.survey.specs.Answers.{Loading, Loaded, Surveying, Answered, stageIn}
@@ -76,7 +76,7 @@ module _ (run : Run) (column grid : List ℤ) (work : List ℕ) (room : ℕ) (le
     loaded-is = subst₂ (Loaded s t) paste-is (ap₂ (λ (x y : ℕ). x + y) product er) loaded
 
     made-is : Answered t left (takenOf run + run .rows)
-        (Closing (Plane (run .rows)) (stageIn t (takenOf run) (run .rows))
+        (Closing (touchOf (planeOf (run .rows))) (stageIn t (takenOf run) (run .rows))
         (stageIn t (takenOf run + run .rows) (run .rows)) (run .threshold)) n
     made-is = rw (er, ek) at made
 

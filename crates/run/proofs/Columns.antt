@@ -18,7 +18,8 @@ use lib.Seq.{paste, paste-suc, take-paste, take-length, take-take}
 use borrow.Author.Tests.{eqb-true, ltb-false, lt-ltb, le-ltb, not-false}
 use Rattle.relief.specs.Heights.{levels}
 use Rattle.relief.specs.Runs.{Stage, Batch, Rest, Closing, Remaining}
-use Rattle.relief.specs.Plane.{Plane, stageOf}
+use Rattle.relief.specs.Plane.{planeOf, touchOf, stageOf}
+use Rattle.relief.specs.Inner.{cut}
 use Rattle.relief.proofs.Tests.{split, le-or-lt, or-false}
 use Rattle.relief.proofs.BatchSurvey.{surveyBatch, surveyRest, survey-batch, survey-rest}
 use Rattle.relief.proofs.Plane.{plane?}
@@ -30,7 +31,6 @@ use Rattle.record.specs.Refusals.{badRows}
 use Rattle.record.proofs.Refusals.{rows-known}
 use Rattle.record.specs.declared.Handed.the-variants.{Count, Refused}
 use Rattle.words.specs.Area.{levelIn}
-use Rattle.sweep.specs.Taking.{cut}
 use Rattle.sweep.proofs.Work.{cut-below, cut-behind}
 use Rattle.table.specs.Table.{Counted, recordsIn}
 use Rattle.table.proofs.Handed.{refused-count, count-same, unused-early, unused-short, unused-count}
@@ -127,7 +127,7 @@ loaded-stage {s} {t} {heights} {n} {m} h l = fun-ext λ c.
 stage-is : (rows columns : ℕ) (whole : List ℤ) {s t : List ℕ} {heights : List ℤ} {n : ℕ} → Loaded s t heights n
     → columns * rows ≤ n
     → take (columns * rows) heights ≡ take (columns * rows) whole
-    → stageIn t (columns * rows) rows ≡ stageOf rows columns whole
+    → stageIn t (columns * rows) rows ≡ stageOf (planeOf rows) columns whole
 stage-is rows columns whole h l e = λ i. record {
   level = (loaded-stage h l ∙ ap levels e) i;
   cells = columns * rows;
@@ -153,8 +153,8 @@ module _ (run : Run) (column grid : List ℤ) (work : List ℕ) (room : ℕ) (le
       → Bad r ≡ columnCheck run (length column) (length grid) (length work)
       → FlatColumn run column grid grid work room left run (Refused r)
   column-refused same e = record {
-    batch = surveyBatch (plane? (run .rows)) (stageOf (run .rows) (run .columns) whole)
-        (stageOf (run .rows) (suc (run .columns)) whole) (run .threshold);
+    batch = surveyBatch (plane? (run .rows)) (stageOf (planeOf (run .rows)) (run .columns) whole)
+        (stageOf (planeOf (run .rows)) (suc (run .columns)) whole) (run .threshold);
     right = survey-batch (plane-staged (run .rows) (run .columns) whole)
         (plane-staged (run .rows) (suc (run .columns)) whole) (run .threshold);
     answered = answer-bad room _ e;
@@ -168,7 +168,7 @@ module _ (run : Run) (column grid : List ℤ) (work : List ℕ) (room : ℕ) (le
   pub end-refused : {r : Refusal} → left ≡ work → Bad r ≡ endCheck run (length grid) (length work)
       → FlatEnd run grid work room left run (Refused r)
   end-refused same e = record {
-    rest = surveyRest (plane? (run .rows)) (stageOf (run .rows) (run .columns) grid) (run .threshold);
+    rest = surveyRest (plane? (run .rows)) (stageOf (planeOf (run .rows)) (run .columns) grid) (run .threshold);
     right = survey-rest (plane-staged (run .rows) (run .columns) grid) (run .threshold);
     answered = answer-bad room _ e;
     run-after = refl;
@@ -182,7 +182,7 @@ module _ (run : Run) (column grid : List ℤ) (work : List ℕ) (room : ℕ) (le
   module _ (g : GoodColumn run (length column) (length grid) (length work)) {s t : List ℕ} {k : ℕ}
       (loaded : Loaded s t (paste grid (takenOf run) column (length column)) (takenOf run + run .rows))
       (made : Answered t left (takenOf run + run .rows)
-      (Closing (Plane (run .rows)) (stageIn t (takenOf run) (run .rows))
+      (Closing (touchOf (planeOf (run .rows))) (stageIn t (takenOf run) (run .rows))
       (stageIn t (takenOf run + run .rows) (run .rows)) (run .threshold)) k) where
     copy : List ℤ
     copy = paste grid (takenOf run) column (length column)
@@ -199,12 +199,12 @@ module _ (run : Run) (column grid : List ℤ) (work : List ℕ) (room : ℕ) (le
     copy-take : (m : ℕ) → m ≤ takenOf run + run .rows → take m copy ≡ take m whole
     copy-take m l = sym (take-take m (takenOf run + run .rows) copy l) ∙ ap (take m) copy-whole
 
-    stage-before : stageIn t (takenOf run) (run .rows) ≡ stageOf (run .rows) (run .columns) whole
+    stage-before : stageIn t (takenOf run) (run .rows) ≡ stageOf (planeOf (run .rows)) (run .columns) whole
     unfolding copy
     stage-before = stage-is (run .rows) (run .columns) whole loaded (omega arith)
         (copy-take (takenOf run) (omega arith))
 
-    stage-after : stageIn t (takenOf run + run .rows) (run .rows) ≡ stageOf (run .rows) (suc (run .columns)) whole
+    stage-after : stageIn t (takenOf run + run .rows) (run .rows) ≡ stageOf (planeOf (run .rows)) (suc (run .columns)) whole
     unfolding copy
     stage-after =
         let e = suc-mul (run .columns) (run .rows) in
@@ -212,11 +212,11 @@ module _ (run : Run) (column grid : List ℤ) (work : List ℕ) (room : ℕ) (le
         ∙ stage-is (run .rows) (suc (run .columns)) whole loaded (omega arith)
         (copy-take (suc (run .columns) * run .rows) (omega arith))
 
-    batch-right : Batch (Plane (run .rows)) (stageOf (run .rows) (run .columns) whole)
-        (stageOf (run .rows) (suc (run .columns)) whole)
+    batch-right : Batch (touchOf (planeOf (run .rows))) (stageOf (planeOf (run .rows)) (run .columns) whole)
+        (stageOf (planeOf (run .rows)) (suc (run .columns)) whole)
         (run .threshold) (entriesIn left (takenOf run + run .rows) k)
     batch-right =
-        subst₂ (λ (a b : Stage). Batch (Plane (run .rows)) a b (run .threshold)
+        subst₂ (λ (a b : Stage). Batch (touchOf (planeOf (run .rows))) a b (run .threshold)
         (entriesIn left (takenOf run + run .rows) k))
         stage-before stage-after (made .order)
 
@@ -260,11 +260,11 @@ module _ (run : Run) (column grid : List ℤ) (work : List ℕ) (room : ℕ) (le
 
   module _ (g : GoodEnd run (length grid) (length work)) {s t : List ℕ} {k : ℕ} (loaded : Loaded s t grid (takenOf run))
       (made : Answered t left (takenOf run)
-      (Remaining (Plane (run .rows)) (stageIn t (takenOf run) (run .rows)) (run .threshold)) k) where
-    rest-right : Rest (Plane (run .rows)) (stageOf (run .rows) (run .columns) grid) (run .threshold)
+      (Remaining (touchOf (planeOf (run .rows))) (stageIn t (takenOf run) (run .rows)) (run .threshold)) k) where
+    rest-right : Rest (touchOf (planeOf (run .rows))) (stageOf (planeOf (run .rows)) (run .columns) grid) (run .threshold)
         (entriesIn left (takenOf run) k)
     rest-right =
-        subst (λ (a : Stage). Rest (Plane (run .rows)) a (run .threshold) (entriesIn left (takenOf run) k))
+        subst (λ (a : Stage). Rest (touchOf (planeOf (run .rows))) a (run .threshold) (entriesIn left (takenOf run) k))
         (stage-is (run .rows) (run .columns) grid loaded (omega arith) refl) (made .order)
 
     rest-length : length (entriesIn left (takenOf run) k) ≡ k

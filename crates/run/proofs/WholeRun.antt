@@ -17,7 +17,7 @@ use lib.Seq.{take-append-le, take-all, getD-append-seam}
 use Rattle.relief.specs.Heights.{levels}
 use Rattle.relief.specs.Peaks.{Entry, ListOf}
 use Rattle.relief.specs.Runs.{Stage, Batch, Rest}
-use Rattle.relief.specs.Plane.{Plane, stageOf}
+use Rattle.relief.specs.Plane.{Plane, planeOf, touchOf, stageOf}
 use Rattle.relief.proofs.Tests.{split, test, below-suc}
 use Rattle.relief.proofs.Lists.{order-unique}
 use Rattle.theorems.specs.Claims.{Touching}
@@ -89,20 +89,20 @@ pub record Told (run : Run) (cells : List ℤ) (batches : List (List Entry)) : T
   pub whole : length cells ≡ takenOf run
   pub many : run .columns ≡ length batches
   pub closes : (j : ℕ) → j < length batches
-      → Batch (Plane (run .rows)) (stageOf (run .rows) j cells) (stageOf (run .rows) (suc j) cells) (run .threshold)
+      → Batch (touchOf (planeOf (run .rows))) (stageOf (planeOf (run .rows)) j cells) (stageOf (planeOf (run .rows)) (suc j) cells) (run .threshold)
       (getD batches j [])
 
 -- further cells leave an earlier stage as it is
 stage-front : (rows j : ℕ) (cells more : List ℤ) → j * rows ≤ length cells
-    → stageOf rows j cells ≡ stageOf rows j (cells ++ more)
+    → stageOf (planeOf rows) j cells ≡ stageOf (planeOf rows) j (cells ++ more)
 stage-front rows j cells more l = ap
     (λ (h : List ℤ). record { level = levels h; cells = j * rows; newest = j * rows - rows })
     (sym (take-append-le (j * rows) cells more l))
 
 told-more : (run run′ : Run) (cells column : List ℤ) (batches : List (List Entry)) (b : List Entry) (n : ℕ)
     → Told run cells batches → length column ≡ run .rows → run′ ≡ columnRun (Count n) run
-    → Batch (Plane (run .rows)) (stageOf (run .rows) (run .columns) (cells ++ column))
-    (stageOf (run .rows) (suc (run .columns)) (cells ++ column)) (run .threshold) b
+    → Batch (touchOf (planeOf (run .rows))) (stageOf (planeOf (run .rows)) (run .columns) (cells ++ column))
+    (stageOf (planeOf (run .rows)) (suc (run .columns)) (cells ++ column)) (run .threshold) b
     → Told run′ (cells ++ column) (batches ++ (b ∷ []))
 told-more run run′ cells column batches b n t e f h =
     subst (λ (r : Run). Told r (cells ++ column) (batches ++ (b ∷ []))) (sym f) (record {
@@ -118,19 +118,19 @@ told-more run run′ cells column batches b n t e f h =
     })
   where
     here : (j : ℕ) → j ≡ length batches
-        → Batch (Plane (run .rows)) (stageOf (run .rows) j (cells ++ column))
-        (stageOf (run .rows) (suc j) (cells ++ column))
+        → Batch (touchOf (planeOf (run .rows))) (stageOf (planeOf (run .rows)) j (cells ++ column))
+        (stageOf (planeOf (run .rows)) (suc j) (cells ++ column))
         (run .threshold) (getD (batches ++ (b ∷ [])) j [])
     here j q =
         let c : j ≡ run .columns = q ∙ sym (t .many) in
         let g : getD (batches ++ (b ∷ [])) j [] ≡ b =
         ap (λ (i : ℕ). getD (batches ++ (b ∷ [])) i []) q ∙ getD-append-seam batches b [] [] in
-        subst₂ (λ (i : ℕ) (x : List Entry). Batch (Plane (run .rows)) (stageOf (run .rows) i (cells ++ column))
-        (stageOf (run .rows) (suc i) (cells ++ column)) (run .threshold) x) (sym c) (sym g) h
+        subst₂ (λ (i : ℕ) (x : List Entry). Batch (touchOf (planeOf (run .rows))) (stageOf (planeOf (run .rows)) i (cells ++ column))
+        (stageOf (planeOf (run .rows)) (suc i) (cells ++ column)) (run .threshold) x) (sym c) (sym g) h
 
     earlier : (j : ℕ) → j < length batches
-        → Batch (Plane (run .rows)) (stageOf (run .rows) j (cells ++ column))
-        (stageOf (run .rows) (suc j) (cells ++ column))
+        → Batch (touchOf (planeOf (run .rows))) (stageOf (planeOf (run .rows)) j (cells ++ column))
+        (stageOf (planeOf (run .rows)) (suc j) (cells ++ column))
         (run .threshold) (getD (batches ++ (b ∷ [])) j [])
     earlier j l =
         let m = t .many in
@@ -138,9 +138,9 @@ told-more run run′ cells column batches b n t e f h =
         let a : j * run .rows ≤ run .columns * run .rows = mul-le-mul-right (run .rows) (omega arith) in
         let a′ : suc j * run .rows ≤ run .columns * run .rows = mul-le-mul-right (run .rows) (omega arith) in
         let g : getD (batches ++ (b ∷ [])) j [] ≡ getD batches j [] = List·getD-append batches (b ∷ []) [] j l in
-        subst (λ (x : List Entry). Batch (Plane (run .rows)) (stageOf (run .rows) j (cells ++ column))
-        (stageOf (run .rows) (suc j) (cells ++ column)) (run .threshold) x) (sym g)
-        (subst₂ (λ (x y : Stage). Batch (Plane (run .rows)) x y (run .threshold) (getD batches j []))
+        subst (λ (x : List Entry). Batch (touchOf (planeOf (run .rows))) (stageOf (planeOf (run .rows)) j (cells ++ column))
+        (stageOf (planeOf (run .rows)) (suc j) (cells ++ column)) (run .threshold) x) (sym g)
+        (subst₂ (λ (x y : Stage). Batch (touchOf (planeOf (run .rows))) x y (run .threshold) (getD batches j []))
         (stage-front (run .rows) j cells column (omega arith))
         (stage-front (run .rows) (suc j) cells column (omega arith))
         (t .closes j l))
@@ -171,8 +171,8 @@ calls-told (accepted {run} {run′} {cells} {column} {grid} {grid′} {batches} 
     (counted-good (columnCheck run (length column) (length grid) (length work)) (length table) (length (h .batch)) n
     (h .answered)) in
     told-more run run′ cells column batches (h .batch) n t (g .whole) (h .run-after)
-    (subst (λ (x : List ℤ). Batch (Plane (run .rows)) (stageOf (run .rows) (run .columns) (x ++ column))
-    (stageOf (run .rows) (suc (run .columns)) (x ++ column)) (run .threshold) (h .batch)) e (h .right))
+    (subst (λ (x : List ℤ). Batch (touchOf (planeOf (run .rows))) (stageOf (planeOf (run .rows)) (run .columns) (x ++ column))
+    (stageOf (planeOf (run .rows)) (suc (run .columns)) (x ++ column)) (run .threshold) (h .batch)) e (h .right))
 calls-told (refused {run} {run′} {cells} {batches = batches} c e h) =
     subst (λ (r : Run). Told r cells batches) (sym (h .run-after)) (calls-told c)
 calls-told (unended {run} {run′} {cells} {batches = batches} c h) =
@@ -182,11 +182,11 @@ pub session-holds : SessionHolds
 session-holds run run′ cells grid batches n work work′ table table′ c e h =
     let t = calls-told c in
     let plane : Touching = record {
-      touch = Plane (run .rows);
+      touch = touchOf (planeOf (run .rows));
       symmetric = claims .plane-symmetric (run .rows);
       told = claims .plane-told (run .rows);
     } in
-    let r = claims .handing plane (λ j. stageOf (run .rows) j cells) (length batches) (run .threshold)
+    let r = claims .handing plane (λ j. stageOf (planeOf (run .rows)) j cells) (length batches) (run .threshold)
     (λ j. getD batches j []) (h .rest)
     (record { grows = claims .plane-grows (run .rows) cells; batches = t .closes; ended = ended t }) in
     record {
@@ -201,17 +201,17 @@ session-holds run run′ cells grid batches n work work′ table table′ c e h 
     all t = take-all (length batches * run .rows) cells
         (let w = t .whole in let m = ap (λ (x : ℕ). x * run .rows) (t .many) in omega arith)
 
-    listed : Told run cells batches → (l : List Entry) → ListOf (Plane (run .rows)) (levels cells) (run .threshold) l
-        → ListOf (Plane (run .rows)) (levels (take (length batches * run .rows) cells)) (run .threshold) l
-    listed t l k = subst (λ (x : List ℤ). ListOf (Plane (run .rows)) (levels x) (run .threshold) l) (sym (all t)) k
+    listed : Told run cells batches → (l : List Entry) → ListOf (touchOf (planeOf (run .rows))) (levels cells) (run .threshold) l
+        → ListOf (touchOf (planeOf (run .rows))) (levels (take (length batches * run .rows) cells)) (run .threshold) l
+    listed t l k = subst (λ (x : List ℤ). ListOf (touchOf (planeOf (run .rows))) (levels x) (run .threshold) l) (sym (all t)) k
 
     ended : Told run cells batches
-        → Rest (Plane (run .rows)) (stageOf (run .rows) (length batches) cells) (run .threshold) (h .rest)
-    ended t = subst (λ (s : Stage). Rest (Plane (run .rows)) s (run .threshold) (h .rest)) same (h .right)
+        → Rest (touchOf (planeOf (run .rows))) (stageOf (planeOf (run .rows)) (length batches) cells) (run .threshold) (h .rest)
+    ended t = subst (λ (s : Stage). Rest (touchOf (planeOf (run .rows))) s (run .threshold) (h .rest)) same (h .right)
       where
-        same : stageOf (run .rows) (run .columns) grid ≡ stageOf (run .rows) (length batches) cells
+        same : stageOf (planeOf (run .rows)) (run .columns) grid ≡ stageOf (planeOf (run .rows)) (length batches) cells
         same =
-            ap (λ (k : ℕ). stageOf (run .rows) k grid) (t .many)
+            ap (λ (k : ℕ). stageOf (planeOf (run .rows)) k grid) (t .many)
             ∙ ap (λ (x : List ℤ). record
             { level = levels x; cells = length batches * run .rows; newest = length batches * run .rows - run .rows })
             (ap (λ (k : ℕ). take (k * run .rows) grid) (sym (t .many)) ∙ e ∙ sym (all t))

@@ -15,7 +15,7 @@ use lib.ListN.{length, take}
 use lib.Seq.{paste}
 use Rattle.relief.specs.Peaks.{Entry}
 use Rattle.relief.specs.Runs.{Batch, Rest}
-use Rattle.relief.specs.Plane.{Plane, stageOf}
+use Rattle.relief.specs.Plane.{planeOf, touchOf, stageOf}
 use Rattle.record.specs.declared.Peak.{Peak}
 use Rattle.record.specs.declared.Handed.{Handed}
 use Rattle.record.specs.declared.Handed.the-variants.{Count, Refused}
@@ -104,8 +104,8 @@ heightsWith run column grid = take (takenOf run) grid ++ column
 pub record Columns (run : Run) (column grid grid′ : List ℤ) (work work′ : List ℕ) (table table′ : List Peak)
     (run′ : Run) (answer : Handed) : Type 0 where
   pub batch : List Entry
-  pub right : Batch (Plane (run .rows)) (stageOf (run .rows) (run .columns) (heightsWith run column grid))
-      (stageOf (run .rows) (suc (run .columns)) (heightsWith run column grid)) (run .threshold) batch
+  pub right : Batch (touchOf (planeOf (run .rows))) (stageOf (planeOf (run .rows)) (run .columns) (heightsWith run column grid))
+      (stageOf (planeOf (run .rows)) (suc (run .columns)) (heightsWith run column grid)) (run .threshold) batch
   pub answered : answer ≡ handedAnswer (columnCheck run (length column) (length grid) (length work)) (length table)
       (length batch)
   pub run-after : run′ ≡ columnRun answer run
@@ -116,7 +116,7 @@ pub record Columns (run : Run) (column grid grid′ : List ℤ) (work work′ : 
 pub record Ends (run : Run) (grid : List ℤ) (work work′ : List ℕ) (table table′ : List Peak) (run′ : Run)
     (answer : Handed) : Type 0 where
   pub rest : List Entry
-  pub right : Rest (Plane (run .rows)) (stageOf (run .rows) (run .columns) grid) (run .threshold) rest
+  pub right : Rest (touchOf (planeOf (run .rows))) (stageOf (planeOf (run .rows)) (run .columns) grid) (run .threshold) rest
   pub answered : answer ≡ handedAnswer (endCheck run (length grid) (length work)) (length table) (length rest)
   pub run-after : run′ ≡ endRun answer run
   pub filled : table′ ≡ tableAfter answer (map recordOf rest) table
@@ -126,8 +126,8 @@ pub record Ends (run : Run) (grid : List ℤ) (work work′ : List ℕ) (table t
 pub record FlatColumn (run : Run) (column grid grid′ : List ℤ) (work : List ℕ) (room : ℕ) (left : List ℕ)
     (run′ : Run) (answer : Handed) : Type 0 where
   pub batch : List Entry
-  pub right : Batch (Plane (run .rows)) (stageOf (run .rows) (run .columns) (heightsWith run column grid))
-      (stageOf (run .rows) (suc (run .columns)) (heightsWith run column grid)) (run .threshold) batch
+  pub right : Batch (touchOf (planeOf (run .rows))) (stageOf (planeOf (run .rows)) (run .columns) (heightsWith run column grid))
+      (stageOf (planeOf (run .rows)) (suc (run .columns)) (heightsWith run column grid)) (run .threshold) batch
   pub answered : answer ≡ handedAnswer (columnCheck run (length column) (length grid) (length work)) room (length batch)
   pub run-after : run′ ≡ columnRun answer run
   pub grid-after : grid′ ≡ columnGrid (columnCheck run (length column) (length grid) (length work)) run column grid
@@ -138,7 +138,7 @@ pub record FlatColumn (run : Run) (column grid grid′ : List ℤ) (work : List 
 pub record FlatEnd (run : Run) (grid : List ℤ) (work : List ℕ) (room : ℕ) (left : List ℕ) (run′ : Run)
     (answer : Handed) : Type 0 where
   pub rest : List Entry
-  pub right : Rest (Plane (run .rows)) (stageOf (run .rows) (run .columns) grid) (run .threshold) rest
+  pub right : Rest (touchOf (planeOf (run .rows))) (stageOf (planeOf (run .rows)) (run .columns) grid) (run .threshold) rest
   pub answered : answer ≡ handedAnswer (endCheck run (length grid) (length work)) room (length rest)
   pub run-after : run′ ≡ endRun answer run
   pub counted : (n : ℕ) → answer ≡ Count n → Counted left (takenOf run) n × (n ≤ room)

@@ -11,7 +11,7 @@ use lib.ListN.{length, take, getD}
 use Rattle.relief.specs.Heights.{levels}
 use Rattle.relief.specs.Peaks.{Entry, Member, ListOf}
 use Rattle.relief.specs.Runs.{Batch}
-use Rattle.relief.specs.Plane.{Plane, stageOf}
+use Rattle.relief.specs.Plane.{planeOf, touchOf, stageOf}
 use Rattle.record.specs.declared.Peak.{Peak}
 use Rattle.record.specs.declared.Refusal.{Refusal}
 use Rattle.record.specs.declared.Handed.the-variants.{Count, Refused}
@@ -39,8 +39,8 @@ pub data Calls : Run → List ℤ → List (List Entry) → Type 0 where
 -- run's list, each peak once."
 pub record HoldsList (rows T : ℕ) (cells : List ℤ) (batches : List (List Entry)) (rest : List Entry) : Type 0 where
   pub closes : (j : ℕ) → j < length batches
-      → Batch (Plane rows) (stageOf rows j cells) (stageOf rows (suc j) cells) T (getD batches j [])
-  pub hold : (l : List Entry) → ListOf (Plane rows) (levels cells) T l → (e : Entry)
+      → Batch (touchOf (planeOf rows)) (stageOf (planeOf rows) j cells) (stageOf (planeOf rows) (suc j) cells) T (getD batches j [])
+  pub hold : (l : List Entry) → ListOf (touchOf (planeOf rows)) (levels cells) T l → (e : Entry)
       → Member e l ↔ (((j : ℕ) × (j < length batches) × Member e (getD batches j [])) ⊎ Member e rest)
   pub once : (i j : ℕ) (e e′ : Entry) → i < j → j < length batches → Member e (getD batches i [])
       → Member e′ (getD batches j []) → e .cell ≡ e′ .cell → ⊥

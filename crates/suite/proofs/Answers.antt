@@ -15,14 +15,14 @@ use lib.ListN.{length, drop}
 use borrow.Author.Tests.{eq-eqb, ne-eqb, lt-ltb, le-ltb}
 use Rattle.relief.specs.Heights.{levels}
 use Rattle.relief.specs.Peaks.{Listed}
-use Rattle.relief.specs.Plane.{Plane}
+use Rattle.relief.specs.Plane.{planeOf, touchOf}
+use Rattle.relief.specs.Inner.{cut}
 use Rattle.relief.proofs.Survey.{survey, survey-list}
 use Rattle.relief.proofs.Plane.{plane?}
 use Rattle.relief.proofs.PlaneRun.{plane-terrain}
 use Rattle.record.specs.declared.Peak.{Peak}
 use Rattle.record.proofs.Refusals.{rows-none, rows-many, rows-right}
 use Rattle.words.specs.Area.{levelIn}
-use Rattle.sweep.specs.Taking.{cut}
 use Rattle.survey.specs.Answers.{entriesIn, Loaded, Answered}
 use Rattle.survey.proofs.Records.{places-record, places-length}
 use Rattle.survey.proofs.Marks.{loaded-levels}
@@ -122,7 +122,7 @@ pos-not-negsuc e = let z : _≡_ {A = ℕ} 0 1 = cc in omega arith
 module _ {rows : ℕ} {heights : List ℕ} {T : ℕ} {work work′ : List ℕ} (table : List ℕ) {s t left : List ℕ} {k : ℕ}
     (h : Accepted rows heights (length work))
     (loaded : Loaded s t (heightsOf heights (length heights / 4)) (length heights / 4))
-    (made : Answered t left (length heights / 4) (Listed (Plane rows) (cut (length heights / 4) (levelIn t)) T) k) where
+    (made : Answered t left (length heights / 4) (Listed (touchOf (planeOf rows)) (cut (length heights / 4) (levelIn t)) T) k) where
   listed : {table′ : List ℕ} {a : ℤ} → a ≡ suiteAnswer rows (length heights) (length work) (length table) k
       → table′ ≡ suiteTable a (entriesIn left (length heights / 4) k) table
       → ((n : ℕ) → a ≡ negsuc n → n < 4 → ⊥) → SuiteLists rows heights T work work′ table table′ a

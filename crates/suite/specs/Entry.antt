@@ -13,7 +13,7 @@ use lib.IntN.{ℤ, pos, negsuc}
 use lib.ListN.{length, drop}
 use Rattle.relief.specs.Heights.{levels}
 use Rattle.relief.specs.Peaks.{Entry, ListOf}
-use Rattle.relief.specs.Plane.{Plane}
+use Rattle.relief.specs.Plane.{planeOf, touchOf}
 use Rattle.record.specs.Records.{recordOf}
 use Rattle.record.specs.Refusals.{badRows}
 use Rattle.words.specs.Words.{wordAt}
@@ -51,7 +51,7 @@ suiteTable (negsuc n) list table = table
 pub record SuiteLists (rows : ℕ) (heights : List ℕ) (T : ℕ) (work work′ table table′ : List ℕ) (answer : ℤ)
     : Type 0 where
   pub list : List Entry
-  pub right : ListOf (Plane rows) (levels (heightsOf heights (length heights / 4))) T list
+  pub right : ListOf (touchOf (planeOf rows)) (levels (heightsOf heights (length heights / 4))) T list
   pub answered : answer ≡ suiteAnswer rows (length heights) (length work) (length table) (length list)
   pub filled : table′ ≡ suiteTable answer list table
   pub unused : (n : ℕ) → answer ≡ negsuc n → n < 4 → work′ ≡ work

@@ -13,17 +13,9 @@ use Rattle.relief.specs.Peaks.{Key, missing, key, Entry, floorOf, Peak, PeakEnt
 use Rattle.relief.specs.Peaks.{InReadingOrder}
 use Rattle.relief.specs.Runs as Runs
 use Rattle.relief.specs.Runs.{Stage, Closed, Remaining}
-use Rattle.relief.proofs.Tests.{
-  split,
-  Decides,
-  true-not-false,
-  le-or-lt,
-  le-decides,
-  and-decides,
-  not-decides,
-  decides-iff,
-  passes,
-}
+use Rattle.relief.specs.Inner.{Decides}
+use Rattle.relief.proofs.Tests.{split, true-not-false, le-or-lt, le-decides, and-decides, not-decides, decides-iff}
+use Rattle.relief.proofs.Tests.{passes}
 use Rattle.relief.proofs.Flats.{Terrain, land-below}
 use Rattle.relief.proofs.Lists.{entry-unique}
 use Rattle.words.specs.Words.{wordAt}

@@ -8,7 +8,8 @@ use native.Mathlib.Omega.{arith}
 use Rattle.relief.specs.Heights.{heightOf}
 use Rattle.relief.specs.Peaks.{Key, missing, key, Entry, Wanted, KeyOf, Listed}
 use Rattle.relief.specs.Runs.{Stage, Further}
-use Rattle.relief.proofs.Tests.{split, Decides, true-not-false, le-or-lt, lt-decides}
+use Rattle.relief.specs.Inner.{Decides}
+use Rattle.relief.proofs.Tests.{split, true-not-false, le-or-lt, lt-decides}
 use Rattle.relief.proofs.Ways.{way-end, way-step, path-of-way}
 use Rattle.relief.proofs.Reach.{way-decides}
 use Rattle.relief.proofs.Flats.{Terrain, land-below, climb}

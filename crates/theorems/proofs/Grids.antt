@@ -14,7 +14,7 @@ use borrow.Author.Tests.{eqb-true}
 use Rattle.relief.specs.Heights.{levelOf, levels}
 use Rattle.relief.specs.Peaks.{Key, missing, key, Entry, ListOf}
 use Rattle.relief.specs.Runs.{Batch, Rest}
-use Rattle.relief.specs.Plane.{Plane, stageOf}
+use Rattle.relief.specs.Plane.{Plane, planeOf, stageOf}
 use Rattle.relief.proofs.Tests.{true-not-false, and-true}
 use Rattle.relief.proofs.Survey.{peak?, better?, joined?, keyLevel, entryAt, listed?, survey, survey-list}
 use Rattle.relief.proofs.BatchSurvey.{closed?, surveyRest, surveyBatch, survey-rest, survey-batch}
@@ -66,9 +66,9 @@ same-equal (x ∷ l) (y ∷ m) e =
 
 abbrev agreesFrom : ℕ → ℕ → List ℤ → ℕ → List (List Entry) → List Entry → Bool
 agreesFrom rows T heights j [] rest =
-    eqb (j * rows) (length heights) && same (surveyRest (plane? rows) (stageOf rows j heights) T) rest
+    eqb (j * rows) (length heights) && same (surveyRest (plane? rows) (stageOf (planeOf rows) j heights) T) rest
 agreesFrom rows T heights j (batch ∷ batches) rest =
-    same (surveyBatch (plane? rows) (stageOf rows j heights) (stageOf rows (suc j) heights) T) batch
+    same (surveyBatch (plane? rows) (stageOf (planeOf rows) j heights) (stageOf (planeOf rows) (suc j) heights) T) batch
     && agreesFrom rows T heights (suc j) batches rest
 
 abbrev agrees : Example → Bool
@@ -84,12 +84,12 @@ follows-from : (rows T : ℕ) (heights : List ℤ) (j : ℕ) (batches : List (Li
 follows-from rows T heights j [] rest e =
     let (h, i) = and-true (eqb (j * rows) (length heights)) _ e in (
       eqb-true (j * rows) (length heights) h,
-      subst (Rest (Plane rows) (stageOf rows j heights) T) (same-equal _ rest i)
+      subst (Rest (Plane rows) (stageOf (planeOf rows) j heights) T) (same-equal _ rest i)
           (survey-rest (plane-staged rows j heights) T),
     )
 follows-from rows T heights j (batch ∷ batches) rest e =
     let (h, i) = and-true _ (agreesFrom rows T heights (suc j) batches rest) e in (
-      subst (Batch (Plane rows) (stageOf rows j heights) (stageOf rows (suc j) heights) T) (same-equal _ batch h)
+      subst (Batch (Plane rows) (stageOf (planeOf rows) j heights) (stageOf (planeOf rows) (suc j) heights) T) (same-equal _ batch h)
           (survey-batch (plane-staged rows j heights) (plane-staged rows (suc j) heights) T),
       follows-from rows T heights (suc j) batches rest i,
     )

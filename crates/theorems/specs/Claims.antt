@@ -6,7 +6,7 @@ use Rattle.relief.specs.Heights.{levelOf}
 use Rattle.relief.specs.Peaks.{Way, least, Path, Peak, Outranks, KeyHeight, NoKey, Island, PassCell, Entry}
 use Rattle.relief.specs.Peaks.{floorOf, prominence, Member, InReadingOrder, PeakEntry, ListOf}
 use Rattle.relief.specs.Runs.{Stage, Closed, Open, Batch, Rest, Further, Growing, KeyKept}
-use Rattle.relief.specs.Plane.{rowOf, columnOf, Plane, stageOf}
+use Rattle.relief.specs.Plane.{rowOf, columnOf, Plane, planeOf, stageOf}
 use Rattle.theorems.specs.Grids.{Follow, marked}
 
 -- A symmetric way of touching that a test tells.
@@ -71,7 +71,7 @@ pub record Claims : Type 1 where
   -- The fence: a cell before the last column touches no cell of a further column.
   pub plane-fence : (rows columns a d : ℕ) → a < columns * rows - rows → columns * rows ≤ d → Plane rows a d → ⊥
   -- A run of heights in the plane is a growing run.
-  pub plane-grows : (rows : ℕ) (heights : List ℤ) → Growing (Plane rows) (λ j. stageOf rows j heights)
+  pub plane-grows : (rows : ℕ) (heights : List ℤ) → Growing (Plane rows) (λ j. stageOf (planeOf rows) j heights)
   pub grid : (t : Touching) (level : ℕ → ℕ) (n : ℕ) → ((c : ℕ) → n ≤ c → level c ≡ 0) → OfGrid (t .touch) level
   -- Two lists, two batches, or two rests that the definition allows are equal.
   pub order-unique : (P : Entry → Type 0) (l m : List Entry) → InReadingOrder P l → InReadingOrder P m → l ≡ m
@@ -89,9 +89,9 @@ pub record Claims : Type 1 where
   -- "for an open one below the greatest legal height some further column would change its key height or unmake it": one
   -- of a single legal height.
   pub open-can-change : (rows columns : ℕ) (heights : List ℤ) (e : Entry) → length heights ≡ columns * rows
-      → Open (Plane rows) (stageOf rows columns heights) e → e .level < 4294967295
+      → Open (Plane rows) (stageOf (planeOf rows) columns heights) e → e .level < 4294967295
       → (z : ℤ) × (mag z < 2147483648) × (0 < levelOf z)
-      × (KeyKept (Plane rows) (stageOf rows (suc columns) (heights ++ replicate rows z)) e → ⊥)
+      × (KeyKept (Plane rows) (stageOf (planeOf rows) (suc columns) (heights ++ replicate rows z)) e → ⊥)
   pub handing : (t : Touching) (stage : ℕ → Stage) (columns T : ℕ) (batch : ℕ → List Entry) (rest : List Entry)
       → Handing (t .touch) stage columns T batch rest → OfHanding (t .touch) stage columns T batch rest
   -- "The ten grids marked * below are shown to follow from the definitions"

@@ -4,7 +4,7 @@ use Prim.Native.Nat.{ℕ, suc, _*_}
 use lib.{IntN.ℤ, IntN.pos, IntN.negsuc, ListN.length}
 use Rattle.relief.specs.Heights.{BLANK, levelOf, levels}
 use Rattle.relief.specs.Peaks.{missing, key, Entry, ListOf}
-use Rattle.relief.specs.{Runs.Batch, Runs.Rest, Plane.Plane, Plane.stageOf}
+use Rattle.relief.specs.{Runs.Batch, Runs.Rest, Plane.Plane, Plane.planeOf, Plane.stageOf}
 
 -- "records as cell, height, key, pass; "-" is missing"
 abbrev pub lone : ℕ → ℤ → Entry
@@ -20,9 +20,9 @@ pub data Example : Type 0 where
 
 -- The columns after the first j, offered one by one, hand out these batches, and End after them the rest.
 abbrev pub HandedOut : ℕ → ℕ → List ℤ → ℕ → List (List Entry) → List Entry → Type 0
-HandedOut rows T heights j [] rest = (j * rows ≡ length heights) × Rest (Plane rows) (stageOf rows j heights) T rest
+HandedOut rows T heights j [] rest = (j * rows ≡ length heights) × Rest (Plane rows) (stageOf (planeOf rows) j heights) T rest
 HandedOut rows T heights j (batch ∷ batches) rest =
-    Batch (Plane rows) (stageOf rows j heights) (stageOf rows (suc j) heights) T batch
+    Batch (Plane rows) (stageOf (planeOf rows) j heights) (stageOf (planeOf rows) (suc j) heights) T batch
     × HandedOut rows T heights (suc j) batches rest
 
 -- Each example is as the definitions say.

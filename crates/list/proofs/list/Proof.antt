@@ -3,7 +3,7 @@
 -- `flat` left; `calls-fill` gives the row to `fill` for good, so that what `fill` says of its last list is said of the
 -- call's. What `flat` leaves allows the filling, and makes the promise (`flat-fillable`, `flat-lists`). The answer is
 -- kept in a local, and is returned as it came. Assumes nothing.
-mod FlatCall
+mod CallsFlat
 use mathlib.Core.Path.{refl}
 use mathlib.Core.List.{List, [], _∷_}
 use Prim.Native.Nat.{ℕ, _<_, _^_}
@@ -55,7 +55,7 @@ use Rattle.table.specs.Table.{countIn, cellsIn}
 use Rattle.table.proofs.NumberCalls.{CellsOf, CountOf, cells-known, count-known, calls-cells, calls-count}
 use Rattle.table.proofs.cells_of.Symbol.{name as #table·cells-of}
 use Rattle.table.proofs.count_of.Symbol.{name as #table·count-of}
-use Rattle.list.proofs.list.Proof.FlatCall.{FlatCall, flat-known, Left, calls-flat}
+use Rattle.list.proofs.list.Proof.CallsFlat.{FlatCall, flat-known, Left, calls-flat}
 use Rattle.list.proofs.Answers.{flat-fillable, flat-lists}
 use Rattle.list.proofs.flat.Symbol.{name as #list·flat}
 use Rattle.list.proofs.list.Key.{name as #list·list}

@@ -2,7 +2,7 @@
 -- The grid goes to `column_flat` for good: what that says of its last list is said of the call's. The run record after
 -- the call counts the column that was taken, so it tells the cells that the records stand behind. What `column_flat`
 -- leaves allows the filling, and makes the promise (`column-fillable`, `column-filled`). Assumes nothing.
-mod FlatCall
+mod CallsFlat
 use mathlib.Core.Path.{refl, ap}
 use mathlib.Core.List.{List, [], _∷_}
 use Prim.Native.Nat.{ℕ}
@@ -53,7 +53,7 @@ use Rattle.table.proofs.count_of.Symbol.{name as #table·count-of}
 use Rattle.run.specs.declared.Run.{Run}
 use Rattle.run.specs.declared.Step.{Step}
 use Rattle.run.specs.Running.{takenOf}
-use Rattle.run.proofs.column.Proof.FlatCall.{FlatCall, flat-known, Left, calls-flat}
+use Rattle.run.proofs.column.Proof.CallsFlat.{FlatCall, flat-known, Left, calls-flat}
 use Rattle.run.proofs.Rows.{column-fillable, column-filled}
 use Rattle.run.proofs.Values.{runVal, stepVal, step-is, run-is, handed-is, run-typed, step-typed, handed-typed}
 use Rattle.run.proofs.TakenCall.{TakenCells, taken-known, calls-taken}

@@ -3,7 +3,7 @@
 -- the answer in it can be read. `calls-flat` lends the work area to `end_flat` and has it back at the list it left;
 -- `calls-fill` gives the row to `fill` for good, so that what `fill` says of its last list is said of the call's. What
 -- `end_flat` leaves allows the filling, and makes the promise (`end-fillable`, `end-filled`). Assumes nothing.
-mod FlatCall
+mod CallsFlat
 use mathlib.Core.Path.{refl, ap}
 use mathlib.Core.List.{List, [], _∷_}
 use Prim.Native.Nat.{ℕ}
@@ -54,7 +54,7 @@ use Rattle.table.proofs.count_of.Symbol.{name as #table·count-of}
 use Rattle.run.specs.declared.Run.{Run}
 use Rattle.run.specs.declared.Step.{Step}
 use Rattle.run.specs.Running.{takenOf}
-use Rattle.run.proofs.end.Proof.FlatCall.{FlatCall, flat-known, Left, calls-flat}
+use Rattle.run.proofs.end.Proof.CallsFlat.{FlatCall, flat-known, Left, calls-flat}
 use Rattle.run.proofs.Rows.{end-fillable, end-filled}
 use Rattle.run.proofs.Values.{runVal, stepVal, step-is, run-is, handed-is, run-typed, step-typed, handed-typed}
 use Rattle.run.proofs.TakenCall.{TakenCells, taken-known, calls-taken}
