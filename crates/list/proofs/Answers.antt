@@ -26,7 +26,7 @@ use Rattle.record.specs.declared.Refusal.{Refusal}
 use Rattle.record.specs.declared.Refusal.the-variants.{Rows, Length, Cells, Work, Table}
 use Rattle.record.specs.Records.{recordOf}
 use Rattle.record.proofs.Refusals.{rows-none, rows-many, rows-right}
-use Rattle.words.specs.Area.{levelIn}
+use Rattle.area.specs.Area.{levelIn}
 use Rattle.table.specs.Table.{Counted, recordsIn, Fillable, countIn, cellsIn, tableAfter, Unused}
 use Rattle.table.proofs.Handed.{
   handed-fillable,

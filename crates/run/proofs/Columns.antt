@@ -30,7 +30,7 @@ use Rattle.record.specs.Records.{recordOf}
 use Rattle.record.specs.Refusals.{badRows}
 use Rattle.record.proofs.Refusals.{rows-known}
 use Rattle.record.specs.declared.Handed.the-variants.{Count, Refused}
-use Rattle.words.specs.Area.{levelIn}
+use Rattle.area.specs.Area.{levelIn}
 use Rattle.sweep.proofs.Work.{cut-below, cut-behind}
 use Rattle.table.specs.Table.{Counted, recordsIn}
 use Rattle.table.proofs.Handed.{refused-count, count-same, unused-early, unused-short, unused-count}

@@ -22,7 +22,7 @@ use Rattle.relief.proofs.Plane.{plane?}
 use Rattle.relief.proofs.PlaneRun.{plane-terrain}
 use Rattle.record.specs.declared.Peak.{Peak}
 use Rattle.record.proofs.Refusals.{rows-none, rows-many, rows-right}
-use Rattle.words.specs.Area.{levelIn}
+use Rattle.area.specs.Area.{levelIn}
 use Rattle.survey.specs.Answers.{entriesIn, Loaded, Answered}
 use Rattle.survey.proofs.Records.{places-record, places-length}
 use Rattle.survey.proofs.Marks.{loaded-levels}

@@ -3,7 +3,7 @@ ghost use mathlib.Core.Path.{_≡_};
 ghost use Prim.Native.Nat.{_*_, _≤_};
 ghost use lib.ListN.{length};
 ghost use Rattle.relief.specs.Heights.{levelOf};
-ghost use Rattle.words.specs.Area.{Area};
+ghost use Rattle.area.specs.Area.{Area};
 ghost use Rattle.layout.specs.Layout.{signedOf};
 ghost use Rattle.survey.specs.Answers.{Loaded};
 ghost use Rattle.suite.specs.Entry.{heightsOf, SuiteLists};

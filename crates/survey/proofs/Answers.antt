@@ -19,7 +19,7 @@ use Rattle.relief.proofs.Tests.{passes}
 use Rattle.relief.proofs.Flats.{Terrain, land-below}
 use Rattle.relief.proofs.Lists.{entry-unique}
 use Rattle.words.specs.Words.{wordAt}
-use Rattle.words.specs.Area.{Area, levelIn, orderIn, parentIn, cellIn, markIn}
+use Rattle.area.specs.Area.{Area, levelIn, orderIn, parentIn, cellIn, markIn}
 use Rattle.sweep.specs.Sweep.{Surveyed, Shores}
 use Rattle.sweep.specs.Taking.{passOf, reachOf, shoreOf}
 use Rattle.table.specs.Table.{Counted}

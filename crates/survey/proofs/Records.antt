@@ -12,7 +12,7 @@ use lib.Dec.{eqb}
 use lib.ListN.{length, length-append}
 use Rattle.relief.specs.Heights.{heightOf}
 use Rattle.relief.specs.Peaks.{missing, key, Entry}
-use Rattle.words.specs.Area.{levelIn, orderIn, parentIn}
+use Rattle.area.specs.Area.{levelIn, orderIn, parentIn}
 use Rattle.record.specs.declared.Peak.{Peak}
 use Rattle.record.specs.Records.{withKey, withoutKey, recordOf}
 use Rattle.sweep.specs.Taking.{passOf}

@@ -1,4 +1,3 @@
-pub mod Priority
 pub mod Tracked
 pub mod OneMore
 pub mod Joined

@@ -2,7 +2,7 @@
 ghost use mathlib.Core.Path.{_≡_};
 ghost use mathlib.Core.Bool.{_||_};
 ghost use Prim.Native.Nat.{_+_, _≤_};
-ghost use Rattle.words.specs.Area.{Area};
+ghost use Rattle.area.specs.Area.{Area};
 ghost use Rattle.sweep.specs.Neighbours.{neighbourOf};
 ghost use Rattle.sweep.specs.Joins.{Around};
 ghost use Rattle.sweep.specs.Taking.{heldIn, Looking, Looks, Turning, Taken};

@@ -25,8 +25,8 @@ use Rattle.relief.proofs.PlaneRun.{heightOf-level}
 use Rattle.record.specs.declared.Peak.{Peak}
 use Rattle.record.specs.Records.{withKey, withoutKey}
 use Rattle.record.proofs.Levels.{level-injective}
-use Rattle.words.specs.Area.{levelIn, orderIn, parentIn, passIn}
-use Rattle.words.specs.Area.{cellIn}
+use Rattle.area.specs.Area.{levelIn, orderIn, parentIn, passIn}
+use Rattle.area.specs.Area.{cellIn}
 use Rattle.table.specs.Table.{Pointed, peakIn, recordsIn, Counted}
 
 -- ---- one record

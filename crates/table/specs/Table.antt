@@ -21,7 +21,7 @@ use Rattle.record.specs.declared.Handed.the-variants.{Count, Refused}
 use Rattle.record.specs.declared.Refusal.{Refusal}
 use Rattle.record.specs.declared.Refusal.the-variants.{Table}
 use Rattle.record.specs.Records.{withKey, withoutKey}
-use Rattle.words.specs.Area.{Area, levelIn, orderIn, parentIn, passIn, cellIn}
+use Rattle.area.specs.Area.{Area, levelIn, orderIn, parentIn, passIn, cellIn}
 
 -- What is asked of one cell, so that its record can be read.
 pub record Pointed (s : List ℕ) (n c : ℕ) : Type 0 where

@@ -3,7 +3,7 @@ ghost use mathlib.Core.Path.{_≡_};
 ghost use mathlib.Core.List.{_++_};
 ghost use Prim.Native.Nat.{_<_};
 ghost use lib.ListN.{drop};
-ghost use Rattle.words.specs.Area.{orderIn};
+ghost use Rattle.area.specs.Area.{orderIn};
 ghost use Rattle.table.specs.Table.{Pointed, peakIn, recordsIn, Fillable, countIn, cellsIn};
 use record::Handed;
 use record::Peak;

@@ -1,9 +1,8 @@
-// 32-bit numbers in lent bytes, little-endian, reached by their place; the quarters of the work area made of them.
+// 32-bit numbers in lent bytes, little-endian, reached by their place.
 ghost use mathlib.Core.Path.{_≡_};
 ghost use Prim.Native.Nat.{_+_, _*_, _<_, _≤_};
 ghost use lib.ListN.{length};
 ghost use Rattle.words.specs.Words.{wordAt, Stored};
-ghost use Rattle.words.specs.Area.{cellIn, markIn, markTwoIn};
 
 fn wide(b: u8) -> u32
     ensures { λ r. ⌜ (r ≡ b) × (r < 256) ⌝ }
@@ -45,25 +44,4 @@ pub fn narrow(v: usize) -> u32
     ensures { λ r. ⌜ r ≡ v ⌝ }
 {
     v as u32
-}
-
-// The cell in a number that may have marks.
-pub fn cell_in(w: u32) -> usize
-    ensures { λ r. ⌜ r ≡ cellIn w ⌝ }
-{
-    (w % 1048576) as usize
-}
-
-// Whether a number has the first mark.
-pub fn mark_in(w: u32) -> bool
-    ensures { λ r. ⌜ r ≡ markIn w ⌝ }
-{
-    w / 1048576 % 2 == 1
-}
-
-// Whether a number has the second mark.
-pub fn mark_two_in(w: u32) -> bool
-    ensures { λ r. ⌜ r ≡ markTwoIn w ⌝ }
-{
-    w / 2097152 % 2 == 1
 }

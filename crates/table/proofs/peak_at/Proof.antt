@@ -4,7 +4,7 @@
 use mathlib.Core.Path.{sym, _∙_}
 use native.Mathlib.Omega.{arith}
 use borrow.Author.Needs.{needs}
-use Rattle.words.specs.Area.{cellIn}
+use Rattle.area.specs.Area.{cellIn}
 use Rattle.table.proofs.Laws.{height-unique, peak-without-key, peak-with-key}
 use Rattle.table.proofs.peak_at.Statement.{statement}
 use Rattle.table.proofs.peak_at.Tie as tie

@@ -1,9 +1,9 @@
 -- `words::cell_in` meets its contract, by the definition. Assumes nothing.
 use mathlib.Core.Path.{refl}
 use borrow.Author.Needs.{needs}
-use Rattle.words.specs.Area.{cellIn}
-use Rattle.words.proofs.cell_in.Statement.{statement}
-use Rattle.words.proofs.cell_in.Tie as tie
+use Rattle.area.specs.Area.{cellIn}
+use Rattle.area.proofs.cell_in.Statement.{statement}
+use Rattle.area.proofs.cell_in.Tie as tie
 
 returns : tie.Need-returns
 unfolding cellIn
