@@ -3,13 +3,13 @@
 use Rattle.record.specs.Claims.{ProminentGreatest, ProminentLeast, Claims}
 use Rattle.record.proofs.Levels.{level-below, level-blank-iff, level-injective, level-le-iff, level-lt-iff}
 use Rattle.record.proofs.Levels.{level-difference, prominent-levels}
-use Rattle.record.proofs.Refusals.{refusals-differ}
+use Rattle.record.proofs.Refusals.{refusals-differ, handed-differ}
 
 prominent-greatest : ProminentGreatest
-prominent-greatest r e = cc
+prominent-greatest r h = let e = h .difference (record { le = tt }) in cc
 
 prominent-least : ProminentLeast
-prominent-least r e = cc
+prominent-least r h = let e = h .difference (record { le = tt }) in cc
 
 pub claims : Claims
 claims = record {
@@ -23,4 +23,5 @@ claims = record {
   prominent-greatest = prominent-greatest;
   prominent-least = prominent-least;
   refusals-differ = refusals-differ;
+  handed-differ = handed-differ;
 }

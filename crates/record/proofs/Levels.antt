@@ -18,7 +18,7 @@ use native.Mathlib.Omega.{arith}
 use borrow.Author.Tests.{le-ltb, lt-ltb, eq-eqb, ne-eqb}
 use lib.Dec.{eqb, leb→le, le→leb}
 use lib.IntN.{ℤ, pos, negsuc, subℕ, _+ℤ_, _-ℤ_, +ℤ-negℤ-cancel}
-use lib.Signed.{_<ℤ_, ltZ, ltZ-yes, ltZ-no, clashℤ}
+use lib.Signed.{_≤ℤ_, _<ℤ_, ltZ, ltZ-yes, ltZ-no, clashℤ}
 use mir.Syntax.{w32}
 use mir.Val.{SFits, ofZ}
 use Rattle.relief.specs.Heights.{levelOf}
@@ -122,4 +122,16 @@ level-difference {a = negsuc a} {b = negsuc b} fa fb h =
     ap pos (omega arith) ∙ sym (sub-of-le (suc b) (suc a) (omega arith))
 
 pub prominent-levels : {height key : ℤ} {r : ℕ} → ProminentLevels height key r
-prominent-levels fh fk h e = let d = level-difference fh fk h in cc
+prominent-levels {height} {key} {r} fh fk h = go (ltZ height key) refl
+  where
+    go : (t : Bool) → ltZ height key ≡ t → r ≡ levelOf height - levelOf key
+    go true e =
+        let l : height <ℤ key = ltZ-yes (rw e tt) in
+        let z = h .none l in
+        let m = level-lt-iff fh fk .0 l in
+        omega arith
+    go false e =
+        let l : key ≤ℤ height = ltZ-no (rw e tt) in
+        let d = level-difference fh fk l in
+        let p = h .difference l in
+        cc

@@ -2,6 +2,7 @@
 -- one, and no pair of cases has to be looked at.
 --     heard t               the refusal that tells t
 --     refusals-differ       two refusals that tell the same are one
+--     handed-differ         and so are two answers of calls that hand out records
 --     rows-none .. -known   what `badRows` says of a number of rows, and what it tells
 -- Assumes nothing.
 use mathlib.Core.Bool.{true, false}
@@ -17,8 +18,9 @@ use Rattle.record.specs.declared.Refusal.{Refusal}
 use Rattle.record.specs.declared.Refusal.the-variants.{Rows, Length, Cells, Work, Table, Ended}
 use Rattle.record.specs.declared.Refusal.the-variants.{ColumnLength, GridFull, TakenCells, FileLength}
 use Rattle.record.specs.declared.Refusal.the-variants.{FileCounts, Unsound, Room}
-use Rattle.record.specs.Refusals.{Told, toldOf, badRows}
-use Rattle.record.specs.Claims.{RefusalsDiffer}
+use Rattle.record.specs.declared.Handed.the-variants.{Count, Refused}
+use Rattle.record.specs.Refusals.{Told, granted, toldOf, badRows}
+use Rattle.record.specs.Claims.{RefusalsDiffer, HandedDiffer}
 
 -- The cases with the value v, at their numbers. No refusal has number 0: any case may stand there.
 cases : ℕ → List Refusal
@@ -47,6 +49,31 @@ heard-told (Room needed) = refl
 
 pub refusals-differ : RefusalsDiffer
 refusals-differ a b e = sym (heard-told a) ∙ ap heard e ∙ heard-told b
+
+-- No refusal has the number of an answer that is none.
+pub told-refused : {A : Type 0} (r : Refusal) (values : List ℕ) → toldOf r ≡ granted values → A
+told-refused r values e = let h = ap (λ (t : Told). t .number) e in let l = told-some r in absurd (omega arith)
+  where
+    told-some : (r : Refusal) → 1 ≤ toldOf r .number
+    told-some Rows = omega arith
+    told-some Length = omega arith
+    told-some Cells = omega arith
+    told-some Work = omega arith
+    told-some (Table needed) = omega arith
+    told-some Ended = omega arith
+    told-some ColumnLength = omega arith
+    told-some GridFull = omega arith
+    told-some TakenCells = omega arith
+    told-some FileLength = omega arith
+    told-some FileCounts = omega arith
+    told-some (Unsound index) = omega arith
+    told-some (Room needed) = omega arith
+
+pub handed-differ : HandedDiffer
+handed-differ (Count n) (Count m) e = ap (λ (t : Told). Count (getD (t .values) 0 0)) e
+handed-differ (Count n) (Refused r) e = told-refused r (n ∷ []) (sym e)
+handed-differ (Refused r) (Count n) e = told-refused r (n ∷ []) e
+handed-differ (Refused r) (Refused q) e = ap Refused (refusals-differ r q e)
 
 -- ---- refusal 1
 

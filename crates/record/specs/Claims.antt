@@ -8,6 +8,7 @@
 --     ProminentGreatest                 the greatest prominence, of 2147483647 over -2147483647
 --     ProminentLeast                    the least, of 5 over 4
 --     RefusalsDiffer                    two refusals that tell the same are one
+--     HandedDiffer                      and so are two answers of calls that hand out records
 --     Claims                            all of these
 -- `SFits w32 z` says that z is a signed 32-bit number, as every height is that the code holds. Assumes nothing.
 use mathlib.Core.Logic.{_↔_}
@@ -20,7 +21,8 @@ use mir.Val.{SFits}
 use Rattle.relief.specs.Heights.{BLANK, levelOf}
 use Rattle.record.specs.declared.Refusal.{Refusal}
 use Rattle.record.specs.Records.{Prominent}
-use Rattle.record.specs.Refusals.{toldOf}
+use Rattle.record.specs.declared.Handed.{Handed}
+use Rattle.record.specs.Refusals.{toldOf, handedTold}
 
 -- ---- levels
 
@@ -49,7 +51,7 @@ LevelDifference a b = SFits w32 a → SFits w32 b → b ≤ℤ a → pos (levelO
 -- So the contract of `prominence` allows one answer.
 abbrev pub ProminentLevels : ℤ → ℤ → ℕ → Type 0
 ProminentLevels height key r =
-    SFits w32 height → SFits w32 key → key ≤ℤ height → Prominent height key r → r ≡ levelOf height - levelOf key
+    SFits w32 height → SFits w32 key → Prominent height key r → r ≡ levelOf height - levelOf key
 
 -- "1 to 4,294,967,294": what the contract of `prominence` says at both ends.
 abbrev pub ProminentGreatest : Type 0
@@ -62,6 +64,9 @@ ProminentLeast = (r : ℕ) → Prominent (pos 5) (pos 4) r → r ≡ 1
 
 abbrev pub RefusalsDiffer : Type 0
 RefusalsDiffer = (a b : Refusal) → toldOf a ≡ toldOf b → a ≡ b
+
+abbrev pub HandedDiffer : Type 0
+HandedDiffer = (a b : Handed) → handedTold a ≡ handedTold b → a ≡ b
 
 -- ---- all of them
 
@@ -76,3 +81,4 @@ pub record Claims : Type 0 where
   pub prominent-greatest : ProminentGreatest
   pub prominent-least : ProminentLeast
   pub refusals-differ : RefusalsDiffer
+  pub handed-differ : HandedDiffer

@@ -4,13 +4,14 @@
 --     withKey cell height key pass    the record of a peak that has a key height
 --     withoutKey cell height          the record of a peak that has none
 --     recordOf e                      the record of an entry of the list
---     Prominent height key r          r is the prominence of that height over that key height
+--     Prominent height key r          r is the prominence of that height over that key height, 0 if that is above it
 -- Assumes nothing.
 use mathlib.Core.Bool.{Bool}
 use mathlib.Core.Path.{_≡_}
 use Prim.Native.Nat.{ℕ}
 use lib.Dec.{eqb}
 use lib.IntN.{ℤ, pos, negsuc, _-ℤ_}
+use lib.Signed.{_≤ℤ_, _<ℤ_}
 use Rattle.relief.specs.Heights.{levelOf, heightOf}
 use Rattle.relief.specs.Peaks.{Key, missing, key as keyed, Entry}
 use Rattle.record.specs.declared.Peak.{Peak}
@@ -35,6 +36,8 @@ keyRecord cell level (keyed k pass) = withKey cell (heightOf level) (heightOf k)
 abbrev pub recordOf : Entry → Peak
 recordOf e = keyRecord (e .cell) (e .level) (e .key)
 
--- "Prominence: height less key height [..]. Either height may be negative." So the difference is one of integers.
-abbrev pub Prominent : ℤ → ℤ → ℕ → Type 0
-Prominent height key r = pos r ≡ height -ℤ key
+-- "Prominence: height less key height [..]. Either height may be negative." So the difference is one of integers. No
+-- peak's key height is above its height; that every two heights have an answer spares the caller a test.
+pub record Prominent (height key : ℤ) (r : ℕ) : Type 0 where
+  pub difference : key ≤ℤ height → pos r ≡ height -ℤ key
+  pub none : height <ℤ key → r ≡ 0

@@ -1,9 +1,13 @@
--- Refusals: the table "What comes back" of document 01.
---     Told           what a refusal tells the caller: its number, and the values that it also returns
---     toldOf r       what the refusal r tells
---     badRows n      what refusal 1 says of a number of rows, as every call does
+-- Answers and refusals: section "What comes back" of document 01.
+--     Told             what an answer tells the caller: the paper's number, 0 where nothing is refused, and the values
+--     granted values   what an answer tells that is no refusal
+--     toldOf r         what the refusal r tells
+--     handedTold a     what the answer of a call tells that hands out records
+--     firstOf tests    an order of refusals: the first of the tests that applies
+--     toldBy tests t   what a call tells by its tests, t where none applies
+--     badRows n        what refusal 1 says of a number of rows, as every call does
 -- Assumes nothing.
-use mathlib.Core.Bool.{Bool, _||_}
+use mathlib.Core.Bool.{Bool, cond, _||_}
 use mathlib.Core.List.{List, [], _∷_}
 use Prim.Native.Nat.{ℕ}
 use lib.Dec.{eqb, ltb}
@@ -11,10 +15,17 @@ use Rattle.record.specs.declared.Refusal.{Refusal}
 use Rattle.record.specs.declared.Refusal.the-variants.{Rows, Length, Cells, Work, Table, Ended}
 use Rattle.record.specs.declared.Refusal.the-variants.{ColumnLength, GridFull, TakenCells, FileLength}
 use Rattle.record.specs.declared.Refusal.the-variants.{FileCounts, Unsound, Room}
+use Rattle.record.specs.declared.Checked.{Checked}
+use Rattle.record.specs.declared.Checked.the-variants.{Good, Bad}
+use Rattle.record.specs.declared.Handed.{Handed}
+use Rattle.record.specs.declared.Handed.the-variants.{Count, Refused}
 
 pub record Told : Type 0 where
   pub number : ℕ
   pub values : List ℕ
+
+abbrev pub granted : List ℕ → Told
+granted values = record { number = 0; values = values }
 
 abbrev pub toldOf : Refusal → Told
 -- "rows are 0 or above 1,024"
@@ -43,6 +54,23 @@ toldOf FileCounts = record { number = 11; values = [] }
 toldOf (Unsound index) = record { number = 12; values = index ∷ [] }
 -- "room too short for the file (writing) or the heights (reading)"; also returns "bytes or heights needed"
 toldOf (Room needed) = record { number = 13; values = needed ∷ [] }
+
+-- "hands out": how many records
+abbrev pub handedTold : Handed → Told
+handedTold (Count n) = granted (n ∷ [])
+handedTold (Refused r) = toldOf r
+
+-- "Order where several apply": each test says whether its refusal applies, and the first that does is given.
+unfoldable pub firstOf : List (Bool × Refusal) → Checked
+firstOf [] = Good
+firstOf (test ∷ tests) = cond (test .0) (Bad (test .1)) (firstOf tests)
+
+abbrev pub checkedTold : Checked → Told → Told
+checkedTold Good told = told
+checkedTold (Bad r) told = toldOf r
+
+abbrev pub toldBy : List (Bool × Refusal) → Told → Told
+toldBy tests told = checkedTold (firstOf tests) told
 
 -- "rows are 0 or above 1,024"
 abbrev pub badRows : ℕ → Bool

@@ -1,11 +1,10 @@
 // The cell and record types, their constants and constructors, level and prominence, answers and refusals.
 ghost use mathlib.Core.Bool.{not};
 ghost use mathlib.Core.Path.{_≡_};
-ghost use lib.IntN.{pos};
-ghost use lib.Signed.{_≤ℤ_};
 ghost use Rattle.relief.specs.Heights.{levelOf};
 ghost use Rattle.record.specs.Records.{isMark, withKey, withoutKey, Prominent};
 ghost use Rattle.record.specs.Refusals.{toldOf};
+ghost use Rattle.record.specs.Inner.{thenTest};
 
 // What a cell of the grid holds: a height, or the blank mark.
 pub struct Cell {
@@ -93,12 +92,14 @@ pub fn height(level: u32) -> i32
     (level as i64 - RAISE) as i32
 }
 
-// The prominence of a height over a key height. The difference is made in 64 bits: two heights may lie 4,294,967,294
-// apart, which no signed 32-bit number holds.
+// The prominence of a height over a key height, 0 where the key height is not below the height. The difference is made
+// in 64 bits: two heights may lie 4,294,967,294 apart, which no signed 32-bit number holds.
 pub fn prominence(height: i32, key: i32) -> u32
-    requires { ⌜ key ≤ℤ height ⌝ }
     ensures { λ r. ⌜ Prominent height key r ⌝ }
 {
+    if height < key {
+        return 0;
+    }
     (height as i64 - key as i64) as u32
 }
 
@@ -118,6 +119,27 @@ pub enum Refusal {
     FileCounts,
     Unsound { index: u32 },
     Room { needed: u32 },
+}
+
+// What the tests of a call say: none applies, or the first that does refuses it.
+pub enum Checked {
+    Good,
+    Bad(Refusal),
+}
+
+// One more test behind those that were made: it counts where none of them applies.
+pub fn then_test(checked: Checked, applies: bool, refusal: Refusal) -> Checked
+    ensures { λ r. ⌜ r ≡ thenTest checked applies refusal ⌝ }
+{
+    match checked {
+        Checked::Bad(_) => checked,
+        Checked::Good => {
+            if applies {
+                return Checked::Bad(refusal);
+            }
+            checked
+        }
+    }
 }
 
 // What a call that fills a peak table answers: how many peaks are handed out, or why it is refused.
