@@ -8,7 +8,7 @@ use mathlib.Core.List.{List}
 use Prim.Native.Nat.{ℕ, suc, _+_, _*_, _≤_, _<_}
 use native.Mathlib.Nat.{mul-le-mul-right, suc-mul}
 use native.Mathlib.Omega.{arith}
-use Rattle.table.specs.Table.{Counted}
+use Rattle.table.specs.Inner.{Standing}
 
 pub product-fits : {r k rows columns : ℕ} → k ≡ columns → r ≡ rows → columns < 4294967296 → rows < 4294967296
     → k * r < 18446744073709551616
@@ -30,5 +30,5 @@ pub sum-is : {r q k rows columns : ℕ} → k ≡ columns → r ≡ rows → q �
 sum-is {r} {q} {k} {rows} {columns} ek er eq =
     ap (λ (x : ℕ). x + q) (product-is ek er) ∙ ap (λ (x : ℕ). columns * rows + x) eq
 
-pub counted-at : {s : List ℕ} {k n count : ℕ} → k ≡ n → Counted s n count → Counted s k count
-counted-at {s} {k} {n} {count} e h = subst (λ (m : ℕ). Counted s m count) (sym e) h
+pub counted-at : {s : List ℕ} {k n count : ℕ} → k ≡ n → Standing s n count → Standing s k count
+counted-at {s} {k} {n} {count} e h = subst (λ (m : ℕ). Standing s m count) (sym e) h

@@ -3,7 +3,7 @@
 // It is asked through the calls that leave the records in the work area, so that the room of the table is a number.
 ghost use mathlib.Core.Path.{_≡_};
 ghost use Prim.Native.Nat.{ℕ, _+_};
-ghost use Rattle.table.specs.Table.{Counted};
+ghost use Rattle.table.specs.Inner.{Standing};
 ghost use Rattle.run.specs.Running.{takenOf};
 ghost use Rattle.record.specs.declared.Handed.the-variants.{Count};
 use crate::records::put;
@@ -74,7 +74,7 @@ pub fn end(run: Run, grid: &[i32], work: &mut [u8], room: usize, out: &mut Recor
 
 // What a call tells.
 fn handed_out(handed: Handed, work: &[u8], cells: usize, out: &mut Records) -> Told
-    requires { ⌜ ((n : ℕ) → handed ≡ Count n → Counted (now work) cells n) ⌝ }
+    requires { ⌜ ((n : ℕ) → handed ≡ Count n → Standing (now work) cells n) ⌝ }
 {
     match handed {
         Handed::Count(n) => copied(work, cells, n as usize, out),
@@ -102,7 +102,7 @@ fn cells_with(run: Run) -> usize
 
 // What an accepted call tells, its records copied out of the work area.
 fn copied(work: &[u8], cells: usize, count: usize, out: &mut Records) -> Told
-    requires { ⌜ Counted (now work) cells count ⌝ }
+    requires { ⌜ Standing (now work) cells count ⌝ }
 {
     copy(work, cells, count, out);
     Told {
@@ -129,7 +129,7 @@ fn needed(refusal: Refusal) -> usize {
 
 // Copies the records out of the work area.
 fn copy(work: &[u8], cells: usize, count: usize, out: &mut Records)
-    requires { ⌜ Counted (now work) cells count ⌝ }
+    requires { ⌜ Standing (now work) cells count ⌝ }
 {
     for i in 0..count {
         put_peak(table::record_at(work, cells, i), i, out);

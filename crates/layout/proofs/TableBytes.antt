@@ -15,7 +15,7 @@ use lib.ListN.{length, drop, length-append, length-drop}
 use lib.Seq.{sets, sets-eq, take-at, drop-append-add, drop-drop}
 use Rattle.record.specs.declared.Peak.{Peak}
 use Rattle.area.specs.Area.{orderIn}
-use Rattle.table.specs.Table.{peakIn, recordsIn}
+use Rattle.table.specs.Inner.{peakIn, recordsIn}
 use Rattle.layout.specs.Layout.{bitsOf, wordOf, bytesOf, recordOf, recordsOf}
 use Rattle.layout.proofs.Bytes.{sets-word}
 

@@ -4,7 +4,7 @@ ghost use mathlib.Core.Path.{_≡_};
 ghost use Prim.Native.Nat.{_+_, _*_, _≤_};
 ghost use lib.ListN.{length, drop};
 ghost use lib.Seq.{sets};
-ghost use Rattle.table.specs.Table.{Counted, recordsIn as recordsLeft};
+ghost use Rattle.table.specs.Inner.{Standing, recordsIn as recordsLeft};
 ghost use Rattle.layout.specs.Layout.{wordOf, bytesOf, recordOf, totalOf};
 ghost use Rattle.layout.specs.Layout.{recordsOf, recordIn};
 use crate::numbers::bits;
@@ -45,7 +45,7 @@ pub fn lay_record(table: &mut [u8], i: usize, peak: Peak)
 
 // Puts the records that stand in the work area at the table's first places. Its other bytes stay as they were.
 pub fn lay_records(table: &mut [u8], work: &[u8], n: usize, count: usize)
-    requires { ⌜ Counted (now work) n count × (16 * count ≤ length (now table)) ⌝ }
+    requires { ⌜ Standing (now work) n count × (16 * count ≤ length (now table)) ⌝ }
     ensures { λ r. ⌜ now (table .exit) ≡ bytesOf (recordsOf (recordsLeft (now (work .entry)) n count))
         ++ drop (16 * count) (now (table .entry)) ⌝ }
 {

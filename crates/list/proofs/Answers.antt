@@ -27,7 +27,8 @@ use Rattle.record.specs.declared.Refusal.the-variants.{Rows, Length, Cells, Wor
 use Rattle.record.specs.Records.{recordOf}
 use Rattle.record.proofs.Refusals.{rows-none, rows-many, rows-right}
 use Rattle.area.specs.Area.{levelIn}
-use Rattle.table.specs.Table.{Counted, recordsIn, Fillable, countIn, cellsIn, tableAfter, Unused}
+use Rattle.table.specs.Promises.{tableAfter, Unused}
+use Rattle.table.specs.Inner.{Standing, recordsIn, Fillable, countIn, cellsRead}
 use Rattle.table.proofs.Handed.{
   handed-fillable,
   handed-filled,
@@ -159,7 +160,7 @@ module _ {rows : ℕ} {heights : List ℤ} {T room : ℕ} {work left : List ℕ}
                   ∙ ap (listAnswer rows (length heights) (length work) room)
                   (sym (list-length left (length heights) k));
               counted = λ n q. let f = sym e ∙ count-same q in
-                  (subst (Counted left (length heights)) f (made .counted), subst (λ (x : ℕ). x ≤ room) f l);
+                  (subst (Standing left (length heights)) f (made .counted), subst (λ (x : ℕ). x ≤ room) f l);
               records = λ n q. let f = sym e ∙ count-same q in
                   ap (recordsIn left (length heights)) (sym f) ∙ places-record left (length heights) k;
               unused = unused-count;
@@ -169,11 +170,11 @@ module _ {rows : ℕ} {heights : List ℤ} {T room : ℕ} {work left : List ℕ}
 
 module _ {rows : ℕ} {heights : List ℤ} {T : ℕ} {work : List ℕ} (table : List Peak) {left : List ℕ} where
   pub flat-fillable : (a : Handed) → Flat rows heights T work (length table) left a
-      → Fillable table left (cellsIn a (length heights)) (countIn a)
+      → Fillable table left (cellsRead a (length heights)) (countIn a)
   flat-fillable a h = handed-fillable table left a (λ n e. refl) (h .counted)
 
   pub flat-lists : (a : Handed) → Flat rows heights T work (length table) left a → {t : List Peak}
-      → t ≡ recordsIn left (cellsIn a (length heights)) (countIn a) ++ drop (countIn a) table
+      → t ≡ recordsIn left (cellsRead a (length heights)) (countIn a) ++ drop (countIn a) table
       → Lists rows heights T work left table t a
   flat-lists a h e = record {
     list = h .list;

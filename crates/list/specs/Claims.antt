@@ -8,7 +8,7 @@ use Prim.Native.Nat.{ℕ}
 use lib.IntN.{ℤ}
 use Rattle.record.specs.declared.Peak.{Peak}
 use Rattle.record.specs.declared.Handed.{Handed}
-use Rattle.table.specs.Table.{Unused}
+use Rattle.table.specs.Promises.{Unused}
 use Rattle.list.specs.Listing.{Lists}
 
 -- Two answers and two rows that `Lists` allows of one call are equal, and so are two work areas at a refusal before

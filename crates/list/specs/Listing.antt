@@ -20,7 +20,8 @@ use Rattle.record.specs.declared.Handed.the-variants.{Count, Refused}
 use Rattle.record.specs.declared.Refusal.the-variants.{Rows, Length, Cells, Work, Table}
 use Rattle.record.specs.Records.{recordOf}
 use Rattle.record.specs.Refusals.{badRows}
-use Rattle.table.specs.Table.{Counted, recordsIn, tableAfter, Unused}
+use Rattle.table.specs.Promises.{tableAfter, Unused}
+use Rattle.table.specs.Inner.{Standing, recordsIn}
 
 -- "List: 1, 2, 3, 4, 5." `work` is in bytes, 16 for "4 numbers of 32 bits per cell". `room` and `needed` count records.
 unfoldable pub listAnswer : ℕ → ℕ → ℕ → ℕ → ℕ → Handed
@@ -52,6 +53,6 @@ pub record Flat (rows : ℕ) (heights : List ℤ) (T : ℕ) (work : List ℕ) (r
   pub list : List Entry
   pub right : ListOf (touchOf (planeOf rows)) (levels heights) T list
   pub answered : answer ≡ listAnswer rows (length heights) (length work) room (length list)
-  pub counted : (n : ℕ) → answer ≡ Count n → Counted left (length heights) n × (n ≤ room)
+  pub counted : (n : ℕ) → answer ≡ Count n → Standing left (length heights) n × (n ≤ room)
   pub records : (n : ℕ) → answer ≡ Count n → recordsIn left (length heights) n ≡ map recordOf list
   pub unused : Unused answer work left

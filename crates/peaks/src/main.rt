@@ -1,5 +1,5 @@
 // The program that lists a run file: it reads one on standard input and lists its heights afresh at threshold 1.
-ghost use Rattle.table.specs.Table.{Counted};
+ghost use Rattle.table.specs.Inner.{Standing};
 use layout::ReadBack;
 use libc::STDIN_FILENO;
 use libc::STDOUT_FILENO;
@@ -77,7 +77,7 @@ fn say_head(rows: u32, columns: u32, count: u32) {
 
 // Writes the records that a list has left in the work area of `n` cells.
 fn say_records(work: &[u8], n: usize, count: usize)
-    requires { ⌜ Counted (now work) n count ⌝ }
+    requires { ⌜ Standing (now work) n count ⌝ }
 {
     let mut i = 0;
     while i < count {

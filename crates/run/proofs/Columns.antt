@@ -32,7 +32,7 @@ use Rattle.record.proofs.Refusals.{rows-known}
 use Rattle.record.specs.declared.Handed.the-variants.{Count, Refused}
 use Rattle.area.specs.Area.{levelIn}
 use Rattle.sweep.proofs.Work.{cut-below, cut-behind}
-use Rattle.table.specs.Table.{Counted, recordsIn}
+use Rattle.table.specs.Inner.{Standing, recordsIn}
 use Rattle.table.proofs.Handed.{refused-count, count-same, unused-early, unused-short, unused-count}
 use Rattle.survey.specs.Answers.{entriesIn, Loaded, Answered, stageIn}
 use Rattle.survey.proofs.Records.{places-record, places-length}
@@ -248,7 +248,7 @@ module _ (run : Run) (column grid : List ℤ) (work : List ℕ) (room : ℕ) (le
       run-after = refl;
       grid-after = ap (λ (c : Checked). columnGrid c run column grid) (sym (g .good));
       counted = λ n q. let f = sym e ∙ count-same q in
-          (subst (Counted left (takenOf run + run .rows)) f (made .counted), subst (λ (x : ℕ). x ≤ room) f l);
+          (subst (Standing left (takenOf run + run .rows)) f (made .counted), subst (λ (x : ℕ). x ≤ room) f l);
       records = λ n q. let f = sym e ∙ count-same q in
           subst (λ (x : ℕ). recordsIn left (takenOf run + run .rows) x ≡ map recordOf
           (entriesIn left (takenOf run + run .rows) k)) f
@@ -290,7 +290,7 @@ module _ (run : Run) (column grid : List ℤ) (work : List ℕ) (room : ℕ) (le
       answered = answer-count (g .good) (e ∙ sym rest-length) (let f = rest-length in omega arith);
       run-after = refl;
       counted = λ n q. let f = sym e ∙ count-same q in
-          (subst (Counted left (takenOf run)) f (made .counted), subst (λ (x : ℕ). x ≤ room) f l);
+          (subst (Standing left (takenOf run)) f (made .counted), subst (λ (x : ℕ). x ≤ room) f l);
       records = λ n q. let f = sym e ∙ count-same q in
           subst (λ (x : ℕ). recordsIn left (takenOf run) x ≡ map recordOf (entriesIn left (takenOf run) k)) f
           (places-record left (takenOf run) k);

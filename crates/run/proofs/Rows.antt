@@ -13,7 +13,7 @@ use lib.ListN.{length, drop}
 use Rattle.record.specs.declared.Peak.{Peak}
 use Rattle.record.specs.declared.Handed.{Handed}
 use Rattle.record.specs.declared.Handed.the-variants.{Count}
-use Rattle.table.specs.Table.{recordsIn, Fillable, countIn, cellsIn}
+use Rattle.table.specs.Inner.{recordsIn, Fillable, countIn, cellsRead}
 use Rattle.table.proofs.Handed.{handed-fillable, handed-filled}
 use Rattle.run.specs.declared.Run.{Run}
 use Rattle.run.specs.Running.{takenOf, columnRun, endRun}
@@ -35,11 +35,11 @@ column-taken run a e n q =
 
 module _ {run : Run} {grid : List ℤ} {work : List ℕ} (table : List Peak) {left : List ℕ} {after : Run} {a : Handed}
     (h : FlatEnd run grid work (length table) left after a) where
-  pub end-fillable : Fillable table left (cellsIn a (takenOf after)) (countIn a)
+  pub end-fillable : Fillable table left (cellsRead a (takenOf after)) (countIn a)
   end-fillable = handed-fillable table left a (end-taken run a (h .run-after)) (h .counted)
 
   pub end-filled : {t : List Peak}
-      → t ≡ recordsIn left (cellsIn a (takenOf after)) (countIn a) ++ drop (countIn a) table
+      → t ≡ recordsIn left (cellsRead a (takenOf after)) (countIn a) ++ drop (countIn a) table
       → Ends run grid work left table t after a
   end-filled e = record {
     rest = h .rest;
@@ -54,11 +54,11 @@ module _ {run : Run} {grid : List ℤ} {work : List ℕ} (table : List Peak) {le
 
 module _ {run : Run} {column grid grid′ : List ℤ} {work : List ℕ} (table : List Peak) {left : List ℕ} {after : Run}
     {a : Handed} (h : FlatColumn run column grid grid′ work (length table) left after a) where
-  pub column-fillable : Fillable table left (cellsIn a (takenOf after)) (countIn a)
+  pub column-fillable : Fillable table left (cellsRead a (takenOf after)) (countIn a)
   column-fillable = handed-fillable table left a (column-taken run a (h .run-after)) (h .counted)
 
   pub column-filled : {t : List Peak}
-      → t ≡ recordsIn left (cellsIn a (takenOf after)) (countIn a) ++ drop (countIn a) table
+      → t ≡ recordsIn left (cellsRead a (takenOf after)) (countIn a) ++ drop (countIn a) table
       → Columns run column grid grid′ work left table t after a
   column-filled e = record {
     batch = h .batch;

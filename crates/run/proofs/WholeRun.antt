@@ -27,7 +27,7 @@ use Rattle.record.specs.Records.{recordOf}
 use Rattle.record.specs.Refusals.{badRows}
 use Rattle.record.specs.declared.Handed.{Handed}
 use Rattle.record.specs.declared.Handed.the-variants.{Count, Refused}
-use Rattle.table.specs.Table.{tableAfter}
+use Rattle.table.specs.Promises.{tableAfter}
 use Rattle.table.proofs.Handed.{unused-unique}
 use Rattle.run.specs.declared.Run.{Run}
 use Rattle.run.specs.declared.Checked.{Checked}

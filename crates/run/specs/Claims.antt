@@ -12,7 +12,7 @@ use Rattle.relief.specs.Peaks.{Entry}
 use Rattle.record.specs.declared.Peak.{Peak}
 use Rattle.record.specs.declared.Handed.{Handed}
 use Rattle.record.specs.declared.Handed.the-variants.{Count}
-use Rattle.table.specs.Table.{Unused}
+use Rattle.table.specs.Promises.{Unused}
 use Rattle.run.specs.declared.Run.{Run}
 use Rattle.run.specs.Running.{takenOf, Columns, Ends}
 use Rattle.run.specs.Sessions.{Calls, HoldsList}

@@ -31,7 +31,8 @@ use Rattle.record.specs.declared.Refusal.the-variants.{
 }
 use Rattle.record.specs.Records.{recordOf}
 use Rattle.record.specs.Refusals.{badRows}
-use Rattle.table.specs.Table.{Counted, recordsIn, tableAfter, Unused}
+use Rattle.table.specs.Promises.{tableAfter, Unused}
+use Rattle.table.specs.Inner.{Standing, recordsIn}
 use Rattle.run.specs.declared.Run.{Run}
 use Rattle.run.specs.declared.Started.{Started}
 use Rattle.run.specs.declared.Started.the-variants as Started
@@ -131,7 +132,7 @@ pub record FlatColumn (run : Run) (column grid grid′ : List ℤ) (work : List 
   pub answered : answer ≡ handedAnswer (columnCheck run (length column) (length grid) (length work)) room (length batch)
   pub run-after : run′ ≡ columnRun answer run
   pub grid-after : grid′ ≡ columnGrid (columnCheck run (length column) (length grid) (length work)) run column grid
-  pub counted : (n : ℕ) → answer ≡ Count n → Counted left (takenOf run + run .rows) n × (n ≤ room)
+  pub counted : (n : ℕ) → answer ≡ Count n → Standing left (takenOf run + run .rows) n × (n ≤ room)
   pub records : (n : ℕ) → answer ≡ Count n → recordsIn left (takenOf run + run .rows) n ≡ map recordOf batch
   pub unused : Unused answer work left
 
@@ -141,7 +142,7 @@ pub record FlatEnd (run : Run) (grid : List ℤ) (work : List ℕ) (room : ℕ) 
   pub right : Rest (touchOf (planeOf (run .rows))) (stageOf (planeOf (run .rows)) (run .columns) grid) (run .threshold) rest
   pub answered : answer ≡ handedAnswer (endCheck run (length grid) (length work)) room (length rest)
   pub run-after : run′ ≡ endRun answer run
-  pub counted : (n : ℕ) → answer ≡ Count n → Counted left (takenOf run) n × (n ≤ room)
+  pub counted : (n : ℕ) → answer ≡ Count n → Standing left (takenOf run) n × (n ≤ room)
   pub records : (n : ℕ) → answer ≡ Count n → recordsIn left (takenOf run) n ≡ map recordOf rest
   pub unused : Unused answer work left
 

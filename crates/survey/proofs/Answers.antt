@@ -22,7 +22,7 @@ use Rattle.words.specs.Words.{wordAt}
 use Rattle.area.specs.Area.{Area, levelIn, orderIn, parentIn, cellIn, markIn}
 use Rattle.sweep.specs.Sweep.{Surveyed, Shores}
 use Rattle.sweep.specs.Taking.{passOf, reachOf, shoreOf}
-use Rattle.table.specs.Table.{Counted}
+use Rattle.table.specs.Inner.{Standing}
 use Rattle.survey.specs.declared.Part.{Part}
 use Rattle.survey.specs.declared.Part.the-variants.{Whole, Closing, Open}
 use Rattle.survey.specs.Collecting.{wantsPart, listedIn, openIn, chosenIn, Collected}
@@ -263,7 +263,7 @@ module _ {touch : ℕ → ℕ → Type 0} {touch? : ℕ → ℕ → Bool} {L : �
         word-same (passOf t n c) (λ a b. omega arith) in
         rw (e3, e4, e1, e2)
 
-    pub answer-counted : Area t n → Counted u n count
+    pub answer-counted : Area t n → Standing u n count
     answer-counted a = record {
       area = record { few = a .few; room = let e = g .len in let b = a .room in omega arith };
       few = let f = g .few in omega arith;

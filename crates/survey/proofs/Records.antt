@@ -16,7 +16,7 @@ use Rattle.area.specs.Area.{levelIn, orderIn, parentIn}
 use Rattle.record.specs.declared.Peak.{Peak}
 use Rattle.record.specs.Records.{withKey, withoutKey, recordOf}
 use Rattle.sweep.specs.Taking.{passOf}
-use Rattle.table.specs.Table.{peakIn, recordsIn}
+use Rattle.table.specs.Inner.{peakIn, recordsIn}
 use Rattle.survey.specs.Answers.{pickKey, entryIn, upTo, entriesIn}
 
 pub peak-record : (s : List ℕ) (n c : ℕ) → peakIn s n c ≡ recordOf (entryIn s n c)

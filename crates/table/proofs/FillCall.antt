@@ -46,7 +46,7 @@ use denote.Triple.Table.{cited}
 use denote.Triple.Walked.{says}
 use Rattle.record.specs.declared.Peak.{Peak}
 use Rattle.record.proofs.Peak as T
-use Rattle.table.specs.Table.{recordsIn, Fillable}
+use Rattle.table.specs.Inner.{recordsIn, Fillable}
 use Rattle.table.proofs.LentAgain.{LentShr, shares-again, shared-back}
 use Rattle.table.proofs.fill as fill
 use Rattle.table.proofs.fill.Symbol as fill-def

@@ -2,7 +2,7 @@
 --     height-unique               a height of 32 bits with the level l, passed on, is `heightOf l`
 --     peak-without-key            the record of a cell that hangs under none
 --     peak-with-key               the record of another
---     counted-pointed             what `record_at` asks of the i-th cell, of a work area with so many listed cells
+--     standing-pointed             what `record_at` asks of the i-th cell, of a work area with so many listed cells
 --     filled t s n i              the row t with the first i records in place of its own
 --     filled-start, filled-step   it is t at 0, and one more record stored makes it that of i + 1
 --     filled-length               it is as long as t
@@ -27,7 +27,7 @@ use Rattle.record.specs.Records.{withKey, withoutKey}
 use Rattle.record.proofs.Levels.{level-injective}
 use Rattle.area.specs.Area.{levelIn, orderIn, parentIn, passIn}
 use Rattle.area.specs.Area.{cellIn}
-use Rattle.table.specs.Table.{Pointed, peakIn, recordsIn, Counted}
+use Rattle.table.specs.Inner.{Pointed, peakIn, recordsIn, Standing}
 
 -- ---- one record
 
@@ -49,9 +49,9 @@ pub peak-with-key : (s : List ℕ) (n c : ℕ) → (parentIn s n c ≡ c → ⊥
 unfolding peakIn
 peak-with-key s n c e = rw (peakIn, ne-eqb (parentIn s n c) c e)
 
-pub counted-pointed : {s : List ℕ} {n count : ℕ} → Counted s n count → (i : ℕ) → i < count
+pub standing-pointed : {s : List ℕ} {n count : ℕ} → Standing s n count → (i : ℕ) → i < count
     → (i < n) × Pointed s n (orderIn s n i)
-counted-pointed h i l =
+standing-pointed h i l =
     let f = h .few in
     (omega arith, record { area = h .area; cell = h .cells i l; pass = h .passes i l })
 

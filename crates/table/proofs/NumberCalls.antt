@@ -35,7 +35,7 @@ use denote.Triple.Table.{cited}
 use Rattle.record.specs.declared.Handed.{Handed}
 use Rattle.record.proofs.Handed as S
 use Rattle.record.proofs.Handed.Laws as S′
-use Rattle.table.specs.Table.{countIn, cellsIn}
+use Rattle.table.specs.Inner.{countIn, cellsRead}
 use Rattle.table.proofs.Locals.{calls-number}
 use Rattle.table.proofs.cells_of as cells-of
 use Rattle.table.proofs.cells_of.Symbol as cells-of-def
@@ -80,9 +80,9 @@ module _ {M : Type 1} (𝓤 : URA M) (H : Heap 𝓤) (A : Atoms 𝓤) (W : Given
       nothing ! $ join ! $ frame ! $ done !
 
   cells-said : (l k : ℕ) → ent 𝓤 (ensured 𝓤 H A cells-of.ended (cells-of.clauses 𝓤 H A mem run) tt (r, (l, tt)) tt k)
-      (fact 𝓤 (k ≡ cellsIn r l))
+      (fact 𝓤 (k ≡ cellsRead r l))
   cells-said l k =
-      exE 𝓤 _ (λ ws. snd∗ 𝓤 (sem 𝓤 H A (lasts cells-of.ended tt (r, (l, tt)) ws)) (fact 𝓤 (k ≡ cellsIn r l)))
+      exE 𝓤 _ (λ ws. snd∗ 𝓤 (sem 𝓤 H A (lasts cells-of.ended tt (r, (l, tt)) ws)) (fact 𝓤 (k ≡ cellsRead r l)))
 
   -- ---- `count_of`
   abbrev pub to-count : CountOf 𝓤 H A mem run .Ghost
@@ -102,10 +102,10 @@ module _ {M : Type 1} (𝓤 : URA M) (H : Heap 𝓤) (A : Atoms 𝓤) (W : Given
     pub calls-cells : K → FmC 𝓤 H (W .laws) C → Triple 𝓤 (C #table·cells-of) (CellsOf 𝓤 H A mem run)
         → (l : ℕ) → l < 2 ^ 64
         → Opds K W (raw (CellsOf 𝓤 H A mem run .pre (to-cells l)) ∷ Γ) E xs (u ∷ vint w64 l ∷ [])
-        → (cellsIn r l < 2 ^ 64 → Seq K W Γ (lands C Λ E d (vint w64 (cellsIn r l)) rest p))
+        → (cellsRead r l < 2 ^ 64 → Seq K W Γ (lands C Λ E d (vint w64 (cellsRead r l)) rest p))
         → Seq K W Γ (runs C Λ E (seq (call #table·cells-of xs d) rest) p)
     calls-cells t fm known l fits os after =
-        calls-number t fm (CellsOf 𝓤 H A mem run) known (to-cells l) (cellsIn r l)
+        calls-number t fm (CellsOf 𝓤 H A mem run) known (to-cells l) (cellsRead r l)
         (ensured 𝓤 H A cells-of.ended (cells-of.clauses 𝓤 H A mem run) tt (r, (l, tt)) tt)
         (goes-cells l fits) (λ v. id⊢ 𝓤 _) (cells-said l) os after
 

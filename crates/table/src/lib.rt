@@ -4,7 +4,7 @@ ghost use mathlib.Core.List.{_++_};
 ghost use Prim.Native.Nat.{_<_};
 ghost use lib.ListN.{drop};
 ghost use Rattle.area.specs.Area.{orderIn};
-ghost use Rattle.table.specs.Table.{Pointed, peakIn, recordsIn, Fillable, countIn, cellsIn};
+ghost use Rattle.table.specs.Inner.{Pointed, peakIn, recordsIn, Fillable, countIn, cellsRead};
 use record::Handed;
 use record::Peak;
 
@@ -60,7 +60,7 @@ pub fn count_of(handed: Handed) -> usize
 
 // The cells of the work area that an answer is read from: none where it is a refusal.
 pub fn cells_of(handed: Handed, cells: usize) -> usize
-    ensures { λ r. ⌜ r ≡ cellsIn handed cells ⌝ }
+    ensures { λ r. ⌜ r ≡ cellsRead handed cells ⌝ }
 {
     match handed {
         Handed::Count(_) => cells,

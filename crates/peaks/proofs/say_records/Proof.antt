@@ -2,7 +2,7 @@
 use Prim.Native.Nat.{_-_}
 use native.Mathlib.Omega.{arith}
 use borrow.Author.Needs.{needs}
-use Rattle.table.proofs.Laws.{counted-pointed}
+use Rattle.table.proofs.Laws.{standing-pointed}
 use Rattle.peaks.proofs.say_records.Statement.{statement}
 use Rattle.peaks.proofs.say_records.Tie as tie
 
@@ -18,7 +18,7 @@ loop-holds c = tt
 record-at-requires : tie.Need-record-at-requires Inv-loop μ-loop
 record-at-requires c κs =
     let s = c .before .before .before in
-    counted-pointed (s .pre) (c .before .loop .i) (c .loop-test .taken)
+    standing-pointed (s .pre) (c .before .loop .i) (c .loop-test .taken)
 
 add-i : tie.Need-add-i Inv-loop μ-loop
 add-i c = omega arith

@@ -47,7 +47,7 @@ use Rattle.record.proofs.Peak as T
 use Rattle.table.proofs.FillCall.{Fill, Filled, fill-known, calls-fill}
 use Rattle.table.proofs.Locals.{localAt, copied, release}
 use Rattle.table.proofs.fill.Symbol.{name as #table·fill}
-use Rattle.table.specs.Table.{countIn, cellsIn}
+use Rattle.table.specs.Inner.{countIn, cellsRead}
 use Rattle.table.proofs.NumberCalls.{CellsOf, CountOf, cells-known, count-known, calls-cells, calls-count}
 use Rattle.table.proofs.cells_of.Symbol.{name as #table·cells-of}
 use Rattle.table.proofs.count_of.Symbol.{name as #table·count-of}
@@ -126,7 +126,7 @@ module _ {M : Type 1} (𝓤 : URA M) (H : Heap 𝓤) (A : Atoms 𝓤) (W : Given
 
   -- how many cells the work area has numbers of
   abbrev n : Step → ℕ
-  n r = cellsIn (r .handed) (takenOf (r .run))
+  n r = cellsRead (r .handed) (takenOf (r .run))
 
   -- ---- the end
   exits : (r : Step) (u : Val) → Is U.the-row r (u ∷ []) → (zs : List ℕ) → Left ru (g .now) ys room r zs

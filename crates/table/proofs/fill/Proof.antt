@@ -24,7 +24,7 @@ use denote.Triple.Spec.{Meets, tripleOf}
 use denote.Triple.Table.{entered, cited}
 use denote.Triple.Walked.{needs, goes-none, goes-slice, goes-none-slice, Walks, walked, walk-meets}
 use denote.Exit.{yes as kept}
-use Rattle.table.specs.Table.{Fillable}
+use Rattle.table.specs.Inner.{Fillable}
 use Rattle.table.proofs.record_at.Symbol as record-at-def
 use Rattle.table.proofs.record_at.Symbol.{name as #table·record-at}
 use Rattle.table.proofs.record_at.Met as record-at-thm

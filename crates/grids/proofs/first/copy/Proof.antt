@@ -3,7 +3,7 @@
 -- Assumes nothing.
 use Prim.Native.Nat.{_-_}
 use native.Mathlib.Omega.{arith}
-use Rattle.table.proofs.Laws.{counted-pointed}
+use Rattle.table.proofs.Laws.{standing-pointed}
 use Rattle.grids.proofs.first.copy.Statement.{statement}
 use Rattle.grids.proofs.first.copy.Tie as tie
 
@@ -14,7 +14,7 @@ abbrev μ-loop : tie.MeasureT-loop
 μ-loop work cells count out₀ i₀ out i = count - i
 
 record-at-requires : tie.Need-record-at-requires Inv-loop μ-loop
-record-at-requires c κs = counted-pointed (c .before .before .before .pre) _ (c .loop-test .taken)
+record-at-requires c κs = standing-pointed (c .before .before .before .pre) _ (c .loop-test .taken)
 
 pub copy-spec : {M : Type 1} → statement M
 copy-spec =

@@ -4,8 +4,8 @@
 use Prim.Native.Nat.{_-_}
 use native.Mathlib.Omega.{arith}
 use denote.Ref.{now}
-use Rattle.table.proofs.Laws.{counted-pointed}
-use Rattle.table.specs.Table.{recordsIn}
+use Rattle.table.proofs.Laws.{standing-pointed}
+use Rattle.table.specs.Inner.{recordsIn}
 use Rattle.layout.proofs.TableBytes.{Puts, records-grow, puts-start, puts-length, puts-step, puts-done}
 use Rattle.layout.proofs.records.lay_records.Statement.{statement}
 use Rattle.layout.proofs.records.lay_records.Tie as tie
@@ -22,7 +22,7 @@ loop-holds c = let a = c .before .before .args in puts-start (records-grow (now 
 record-at-requires : tie.Need-record-at-requires Inv-loop μ-loop
 record-at-requires c κs =
     let at-loop = c .before .before in
-    counted-pointed (at-loop .before .before .before .pre .0) (at-loop .loop .i) (c .before .loop-test .taken)
+    standing-pointed (at-loop .before .before .before .pre .0) (at-loop .loop .i) (c .before .loop-test .taken)
 
 lay-record-requires : tie.Need-lay-record-requires Inv-loop μ-loop
 lay-record-requires c κs =

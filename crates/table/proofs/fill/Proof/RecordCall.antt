@@ -36,7 +36,7 @@ use denote.Triple.Walked.{says}
 use Rattle.record.specs.declared.Peak.{Peak}
 use Rattle.record.proofs.Peak as T
 use Rattle.area.specs.Area.{orderIn}
-use Rattle.table.specs.Table.{Pointed, peakIn}
+use Rattle.table.specs.Inner.{Pointed, peakIn}
 use Rattle.table.proofs.record_at as record-at
 use Rattle.table.proofs.record_at.Symbol.{name as #table·record-at}
 

@@ -57,8 +57,8 @@ use denote.Exit.{yes as kept}
 use Rattle.record.specs.declared.Peak.{Peak}
 use Rattle.record.proofs.Peak as T
 use Rattle.record.proofs.Peak.Laws as T′
-use Rattle.table.specs.Table.{Fillable}
-use Rattle.table.proofs.Laws.{counted-pointed, filled, filled-start, filled-step, filled-length}
+use Rattle.table.specs.Inner.{Fillable}
+use Rattle.table.proofs.Laws.{standing-pointed, filled, filled-start, filled-step, filled-length}
 use Rattle.table.proofs.Locals.{localAt, copied, release}
 use Rattle.table.proofs.Upto.{Upto, Nearer, Nearer-wf, bytes-fit, next-fits}
 use Rattle.table.proofs.record_at.Symbol.{name as #table·record-at}
@@ -200,7 +200,7 @@ module _ {M : Type 1} (𝓤 : URA M) (H : Heap 𝓤) (A : Atoms 𝓤) (W : Given
         stays ! (copied ! (loc 6 6) refl) $
         move ! (4 ∷ 5 ∷ []) $
         calls-record 𝓤 H A W mem run κ′ q′ s n (i .0) ! (fmOf 𝓤 H (W .laws) 𝓣) known
-        (counted-pointed (can .counted) (i .0) less) n-fits i-fits (and-then ! (copied ! (loc 6 2) refl)
+        (standing-pointed (can .standing) (i .0) less) n-fits i-fits (and-then ! (copied ! (loc 6 2) refl)
         (and-then ! (copied ! (loc 6 3) refl) (and-then ! (copied ! (loc 6 5) refl) (no-more !)))) (λ w is.
         -- [what the record owns; the token; what work owns; the row; the open borrow; obs; auth; _9; …; _0; …]
         land ! (from ! (stop !)) (init ! (loc 7 7) refl (typed is)) $
