@@ -19,7 +19,9 @@ run:
 	@test "$$(cat target/run.status)" = 0 || { cat target/run.log >&2; exit 1; }
 	@cat target/log/peaks.stdout
 
-bench: cpp-tools cpp-bench
+bench: cpp-tools
+	@echo "bench: times on x86-64, counts of instructions elsewhere, with plain C++ beside; some minutes" >&2
+	@$(MAKE) --no-print-directory cpp-bench
 
 layout:
 	@test -z "$$(rt fmt --check 2>&1)" || { rt fmt --check >&2; exit 1; }
