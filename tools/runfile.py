@@ -262,7 +262,7 @@ def note_of(command, result):
         return "no records are stored in this file, and pack stores none; target/bin/peaks < FILE lists its peaks"
     if command == "pack" and len(result) > HEADER.size + 4 * PROGRAM_CELLS:
         cells = (len(result) - HEADER.size) // 4
-        return f"target/bin/peaks takes at most {PROGRAM_CELLS} cells and refuses this grid of {cells}; the library lists it"
+        return f"target/bin/peaks takes at most {PROGRAM_CELLS} cells and refuses these {cells}; the library lists them"
     return None
 
 
