@@ -14,7 +14,7 @@ test:
 # each crate are shown, and all of it if something is not proved.
 run:
 	@mkdir -p target
-	@echo "run: proving peaks and each crate below it that changed; some two minutes the first time" >&2
+	@echo "run: proving peaks and each crate below it that changed; two to three minutes the first time" >&2
 	@{ rt check peaks 2>&1; echo $$? > target/run.status; } | tee target/run.log | sed -u -n 's/^rt: /run: /p' >&2
 	@test "$$(cat target/run.status)" = 0 || { cat target/run.log >&2; exit 1; }
 	@cat target/log/peaks.stdout

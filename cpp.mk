@@ -118,7 +118,7 @@ $(CPP_OUT)/libsuite.a $(CPP_OUT)/libmeter.a: | $(CPP_OUT)
 	@cmp -s $< $@ || cp $< $@
 
 target/staticlib/lib%.a: cpp-always | $(CPP_OUT)
-	@echo "archive: proving $* and each crate below it that changed, for $@; some two minutes the first time" >&2
+	@echo "archive: proving $* and each crate below it that changed, for $@; two to three minutes the first time" >&2
 	@rt staticlib $* > $(CPP_OUT)/staticlib-$*.log 2>&1 || { cat $(CPP_OUT)/staticlib-$*.log >&2; exit 1; }
 
 $(CPP_OUT):
