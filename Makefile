@@ -1,4 +1,4 @@
-# make run proves and builds the program that lists a run file, and shows what it prints of document 01's three-row grid.
+# make run proves and builds the program that lists a run file, and shows what it prints of a grid of three rows.
 # make test runs everything that can fail, the proofs last; its last line is 'N passed, 0 failed'.
 # make bench compares the library with plain C++: the list, the run file, and a column call with a list.
 # Each says on standard error what it is doing and for how long; the times are those of two cores.
