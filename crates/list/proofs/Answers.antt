@@ -36,7 +36,7 @@ use Rattle.table.specs.Inner.{roomAnswer}
 use Rattle.table.proofs.Handed.{worked-late, flat-refused, flat-made}
 use Rattle.survey.specs.Answers.{entriesIn, Loading, Loaded, Surveying, Answered}
 use Rattle.survey.proofs.Records.{places-record, places-length}
-use Rattle.survey.proofs.Marks.{loaded-levels}
+use Rattle.survey.proofs.Loads.{loaded-levels}
 use Rattle.list.specs.Promises.{listTests}
 use Rattle.list.specs.Inner.{ListsFlat, GoodGrid}
 
@@ -103,7 +103,7 @@ module _ (rows : ℕ) (heights : List ℤ) (T room : ℕ) (work : List ℕ) {lef
       → a ≡ roomAnswer room k → ListsFlat rows heights T work room left a
   grid-listed g {t} {k} loaded made =
       flat-made (listTests rows (length heights) (length work)) (entriesIn left (length heights) k) right (g .good)
-      (worked-late (g .good) (made .len ∙ loaded .len) ?)
+      (worked-late (g .good) (made .len ∙ loaded .len) (λ i l. made .beyond i l ∙ loaded .beyond i l))
       (sym (places-length _ k)) (made .counted) (places-record left (length heights) k)
     where
       right : ListOf (touchOf (planeOf rows)) (levels heights) T (entriesIn left (length heights) k)

@@ -1,4 +1,2 @@
 pub mod Promises
 pub mod Inner
-pub mod WholeRun
-pub mod Claims
