@@ -19,8 +19,7 @@ use Rattle.relief.specs.Peaks.{Entry, Listed, ListOf}
 use Rattle.relief.specs.Inner.{cut}
 use Rattle.relief.specs.Plane.{planeOf, touchOf}
 use Rattle.relief.proofs.Survey.{survey, survey-list}
-use Rattle.relief.proofs.Plane.{plane?}
-use Rattle.relief.proofs.PlaneRun.{plane-terrain}
+use Rattle.relief.proofs.Shapes.{touch?, shape-terrain}
 use Rattle.record.specs.declared.Refusal.{Refusal}
 use Rattle.record.specs.declared.Refusal.the-variants.{Rows, Length, Cells, Work}
 use Rattle.record.specs.declared.Checked.{Checked}
@@ -95,7 +94,7 @@ module _ (rows : ℕ) (heights : List ℤ) (T room : ℕ) (work : List ℕ) {lef
       → ListsFlat rows heights T work room left (Refused r)
   grid-refused bad same =
       flat-refused (listTests rows (length heights) (length work))
-      (survey (plane? rows) (levels heights) (length heights) T) (survey-list (plane-terrain rows heights) T) bad same
+      (survey (touch? (planeOf rows)) (levels heights) (length heights) T) (survey-list (shape-terrain (planeOf rows) heights) T) bad same
 
   pub grid-listed : GoodGrid rows (length heights) (length work) → {t : List ℕ} {k : ℕ} {a : Handed}
       → Loaded work t heights (length heights)

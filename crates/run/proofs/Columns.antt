@@ -21,8 +21,8 @@ use Rattle.relief.specs.Plane.{Shape, planeOf, touchOf, newestOf, stageOf}
 use Rattle.relief.specs.Inner.{cut}
 use Rattle.relief.proofs.Tests.{split, le-or-lt}
 use Rattle.relief.proofs.BatchSurvey.{surveyBatch, surveyRest, survey-batch, survey-rest}
-use Rattle.relief.proofs.Plane.{plane?}
-use Rattle.relief.proofs.PlaneRun.{levels-end, levels-take, plane-staged}
+use Rattle.relief.proofs.Levels.{levels-end, levels-take, cut-below, cut-behind}
+use Rattle.relief.proofs.Shapes.{touch?, stage-staged}
 use Rattle.record.specs.declared.Refusal.{Refusal}
 use Rattle.record.specs.declared.Checked.{Checked}
 use Rattle.record.specs.declared.Checked.the-variants.{Good, Bad}
@@ -30,7 +30,6 @@ use Rattle.record.specs.declared.Handed.{Handed}
 use Rattle.record.specs.declared.Handed.the-variants.{Refused}
 use Rattle.record.specs.Refusals.{firstOf}
 use Rattle.area.specs.Area.{levelIn}
-use Rattle.sweep.proofs.Work.{cut-below, cut-behind}
 use Rattle.table.specs.Inner.{roomAnswer}
 use Rattle.table.proofs.Handed.{worked-late, flat-refused, flat-made}
 use Rattle.survey.specs.Answers.{entriesIn, Loading, Loaded, Surveying, Answered, stageIn}
@@ -83,10 +82,10 @@ module _ (run : Run) (column grid : List ℤ) (room : ℕ) (work : List ℕ) whe
       → ColumnsFlat run column grid grid work room left run (Refused r)
   column-refused bad same = record {
     hands = flat-refused (columnTests run (length column) (length grid) (length work))
-        (surveyBatch (plane? (run .rows)) (stageOf (shapeOf run) (run .columns) whole)
+        (surveyBatch (touch? (shapeOf run)) (stageOf (shapeOf run) (run .columns) whole)
         (stageOf (shapeOf run) (suc (run .columns)) whole) (run .threshold))
-        (survey-batch (plane-staged (run .rows) (run .columns) whole)
-        (plane-staged (run .rows) (suc (run .columns)) whole) (run .threshold)) bad same;
+        (survey-batch (stage-staged (shapeOf run) (run .columns) whole)
+        (stage-staged (shapeOf run) (suc (run .columns)) whole) (run .threshold)) bad same;
     run-after = refl;
     grid-after = ap (λ (c : Checked). columnGrid c run column grid) (sym bad);
   }
@@ -95,8 +94,8 @@ module _ (run : Run) (column grid : List ℤ) (room : ℕ) (work : List ℕ) whe
       → EndsFlat run grid work room left run (Refused r)
   end-refused bad same = record {
     hands = flat-refused (endTests run (length grid) (length work))
-        (surveyRest (plane? (run .rows)) (stageOf (shapeOf run) (run .columns) grid) (run .threshold))
-        (survey-rest (plane-staged (run .rows) (run .columns) grid) (run .threshold)) bad same;
+        (surveyRest (touch? (shapeOf run)) (stageOf (shapeOf run) (run .columns) grid) (run .threshold))
+        (survey-rest (stage-staged (shapeOf run) (run .columns) grid) (run .threshold)) bad same;
     run-after = refl;
   }
 

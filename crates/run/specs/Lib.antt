@@ -1,2 +1,4 @@
 pub mod Promises
 pub mod Inner
+pub mod WholeRun
+pub mod Claims
