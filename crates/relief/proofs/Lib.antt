@@ -8,5 +8,6 @@ pub mod Survey
 pub mod BatchSurvey
 pub mod Closed
 pub mod Batches
-pub mod PlaneRun
 pub mod Plane
+pub mod Levels
+pub mod Shapes
