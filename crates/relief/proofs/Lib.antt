@@ -1,3 +1,4 @@
+<<<<<<< HEAD
 pub mod Tests
 pub mod Ways
 pub mod Reach
@@ -11,3 +12,18 @@ pub mod Batches
 pub mod Plane
 pub mod Levels
 pub mod Shapes
+=======
+pub mod Tests  -- tests that compute, and what they decide
+pub mod Levels  -- heights, levels, and levels cut off at a cell
+pub mod Ways  -- ways and paths, and the least level on them
+pub mod Reach  -- whether there is a way, by a test
+pub mod Flats  -- flats and peaks; what outranks is better
+pub mod Keys  -- key heights, islands, pass cells
+pub mod Lists  -- entries, and lists in reading order
+pub mod Survey  -- the definitions computed: entries and the list
+pub mod BatchSurvey  -- and what the calls of a run hand out
+pub mod Closed  -- what is closed stays, what is open can change
+pub mod Batches  -- the batches hold the list
+pub mod Plane  -- touching in the plane
+pub mod Shapes  -- grids and runs of any shape
+>>>>>>> 6b73abf0212ea03dfd27afb9c38f744a0b4f4940

@@ -19,8 +19,7 @@ use Rattle.relief.specs.Peaks.{Entry, ListOf}
 use Rattle.relief.specs.Runs.{Stage, Batch, Rest}
 use Rattle.relief.specs.Plane.{Shape, touchOf, newestOf, stageOf}
 use Rattle.relief.proofs.Tests.{split, below-suc}
-use Rattle.theorems.specs.Claims.{Touching}
-use Rattle.theorems.proofs.Claims.{claims}
+use Rattle.theorems.proofs.Claims.{shape-touching, claims}
 use Rattle.record.specs.declared.Handed.the-variants.{Count}
 use Rattle.run.specs.declared.Run.{Run}
 use Rattle.run.specs.declared.Started.the-variants as started
@@ -116,17 +115,10 @@ calls-told (refused {run} {run′} {cells} {batches = batches} c h) =
 calls-told (unended {run} {run′} {cells} {batches = batches} c h) =
     subst (λ (r : Run). Told r cells batches) (sym (h .run-after)) (calls-told c)
 
-abbrev touching : Shape → Touching
-touching shape = record {
-  touch = touchOf shape;
-  symmetric = claims .plane-symmetric (shape .rows);
-  told = claims .plane-told (shape .rows);
-}
-
 pub run-holds : RunHolds
 run-holds run run′ cells grid batches n work work′ table table′ c e h =
     let t = calls-told c in
-    let r = claims .handing (touching (shapeOf run)) (λ j. stageOf (shapeOf run) j cells) (length batches) (run .threshold)
+    let r = claims .handing (shape-touching (shapeOf run)) (λ j. stageOf (shapeOf run) j cells) (length batches) (run .threshold)
     (λ j. getD batches j []) (h .hands .entries)
     (record { grows = claims .run-grows (shapeOf run) cells; batches = t .closes; ended = ended t }) in
     record {

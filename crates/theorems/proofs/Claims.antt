@@ -9,6 +9,7 @@ use lib.Seq.{take-append-le}
 use Rattle.relief.specs.Heights.{heightOf}
 use Rattle.relief.specs.Peaks.{Key, missing, key, Entry, Wanted, KeyOf, Listed}
 use Rattle.relief.specs.Runs.{Stage, Further}
+use Rattle.relief.specs.Plane.{Shape, touchOf}
 use Rattle.relief.specs.Inner.{Decides}
 use Rattle.relief.proofs.Tests.{split, true-not-false, le-or-lt, lt-decides}
 use Rattle.relief.proofs.Ways.{way-end, way-step, path-of-way}
@@ -21,7 +22,11 @@ use Rattle.relief.proofs.Closed as Closing
 use Rattle.relief.proofs.Batches as Growing
 use Rattle.relief.proofs.Plane as Plane
 use Rattle.relief.proofs.Levels.{heightOf-level}
+<<<<<<< HEAD
 use Rattle.relief.proofs.Shapes.{stage-staged, stage-further, run-grows, stage-open-changes}
+=======
+use Rattle.relief.proofs.Shapes.{touch-decides, touch-symmetric, stage-further, run-grows, stage-open-changes}
+>>>>>>> 6b73abf0212ea03dfd27afb9c38f744a0b4f4940
 use Rattle.theorems.specs.Claims.{Touching, OfGrid, Handing, OfHanding, Claims}
 use Rattle.theorems.proofs.Grids.{marked-follow}
 
@@ -33,9 +38,17 @@ yes-decides : {A : Type 0} (d : Dec A) → Decides A (isYes d)
 yes-decides (yes a) = record { holds = λ e. a; fails = λ e. true-not-false refl e }
 yes-decides (no n) = record { holds = λ e. true-not-false e refl; fails = λ e. n }
 
-decided : {A : Type 0} {b : Bool} → Decides A b → Dec A
+pub decided : {A : Type 0} {b : Bool} → Decides A b → Dec A
 decided {b = true} d = yes (d .holds refl)
 decided {b = false} d = no (d .fails refl)
+
+-- How the cells of a shape touch is symmetric, and told by a test.
+abbrev pub shape-touching : Shape → Touching
+shape-touching shape = record {
+  touch = touchOf shape;
+  symmetric = touch-symmetric shape;
+  told = λ a b. decided (touch-decides shape a b);
+}
 
 touching-terrain : (t : Touching) (level : ℕ → ℕ) (n : ℕ) → ((c : ℕ) → n ≤ c → level c ≡ 0)
     → Terrain (t .touch) (λ a b. isYes (t .told a b)) level n
@@ -148,9 +161,16 @@ claims = record {
   closed-stays = λ t s s′ f. Closing.closed-stays (before t f) (after t f) f;
   closed-island = λ t s s′ f. Closing.closed-island (before t f) (after t f) f;
   closed-further = λ shape columns k heights more e l.
+<<<<<<< HEAD
       Closing.closed-stays (stage-staged shape columns heights) (stage-staged shape (columns + k) (heights ++ more))
       (stage-further shape columns (columns + k) heights (heights ++ more) (omega arith)
       (take-append-le (columns * shape .rows) heights more l)) e;
+=======
+      let t = shape-touching shape in
+      let f = stage-further shape columns (columns + k) heights (heights ++ more) (omega arith)
+      (take-append-le (columns * shape .rows) heights more l) in
+      Closing.closed-stays (before t f) (after t f) f e;
+>>>>>>> 6b73abf0212ea03dfd27afb9c38f744a0b4f4940
   open-can-change = λ shape columns heights e whole o l.
       let (h, m) = heightOf-level (suc (e .level)) (omega arith) in (
         heightOf (suc (e .level)),
