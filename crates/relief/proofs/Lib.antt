@@ -1,18 +1,3 @@
-<<<<<<< HEAD
-pub mod Tests
-pub mod Ways
-pub mod Reach
-pub mod Flats
-pub mod Keys
-pub mod Lists
-pub mod Survey
-pub mod BatchSurvey
-pub mod Closed
-pub mod Batches
-pub mod Plane
-pub mod Levels
-pub mod Shapes
-=======
 pub mod Tests  -- tests that compute, and what they decide
 pub mod Levels  -- heights, levels, and levels cut off at a cell
 pub mod Ways  -- ways and paths, and the least level on them
@@ -26,4 +11,3 @@ pub mod Closed  -- what is closed stays, what is open can change
 pub mod Batches  -- the batches hold the list
 pub mod Plane  -- touching in the plane
 pub mod Shapes  -- grids and runs of any shape
->>>>>>> 6b73abf0212ea03dfd27afb9c38f744a0b4f4940

@@ -22,11 +22,7 @@ use Rattle.relief.proofs.Closed as Closing
 use Rattle.relief.proofs.Batches as Growing
 use Rattle.relief.proofs.Plane as Plane
 use Rattle.relief.proofs.Levels.{heightOf-level}
-<<<<<<< HEAD
-use Rattle.relief.proofs.Shapes.{stage-staged, stage-further, run-grows, stage-open-changes}
-=======
 use Rattle.relief.proofs.Shapes.{touch-decides, touch-symmetric, stage-further, run-grows, stage-open-changes}
->>>>>>> 6b73abf0212ea03dfd27afb9c38f744a0b4f4940
 use Rattle.theorems.specs.Claims.{Touching, OfGrid, Handing, OfHanding, Claims}
 use Rattle.theorems.proofs.Grids.{marked-follow}
 
@@ -161,16 +157,10 @@ claims = record {
   closed-stays = λ t s s′ f. Closing.closed-stays (before t f) (after t f) f;
   closed-island = λ t s s′ f. Closing.closed-island (before t f) (after t f) f;
   closed-further = λ shape columns k heights more e l.
-<<<<<<< HEAD
-      Closing.closed-stays (stage-staged shape columns heights) (stage-staged shape (columns + k) (heights ++ more))
-      (stage-further shape columns (columns + k) heights (heights ++ more) (omega arith)
-      (take-append-le (columns * shape .rows) heights more l)) e;
-=======
       let t = shape-touching shape in
       let f = stage-further shape columns (columns + k) heights (heights ++ more) (omega arith)
       (take-append-le (columns * shape .rows) heights more l) in
       Closing.closed-stays (before t f) (after t f) f e;
->>>>>>> 6b73abf0212ea03dfd27afb9c38f744a0b4f4940
   open-can-change = λ shape columns heights e whole o l.
       let (h, m) = heightOf-level (suc (e .level)) (omega arith) in (
         heightOf (suc (e .level)),
