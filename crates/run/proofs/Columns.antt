@@ -90,7 +90,8 @@ module _ (run : Run) (column grid : List ℤ) (room : ℕ) (work : List ℕ) whe
     grid-after = ap (λ (c : Checked). columnGrid c run column grid) (sym bad);
   }
 
-  pub end-refused : {left : List ℕ} {r : Refusal} → firstOf (endTests run (length grid) (length work)) ≡ Bad r → left ≡ work
+  pub end-refused : {left : List ℕ} {r : Refusal}
+      → firstOf (endTests run (length grid) (length work)) ≡ Bad r → left ≡ work
       → EndsFlat run grid work room left run (Refused r)
   end-refused bad same = record {
     hands = flat-refused (endTests run (length grid) (length work))
@@ -205,7 +206,8 @@ module _ (run : Run) (grid : List ℤ) (work : List ℕ) (g : GoodEnd run (lengt
     all = let f = g .fits in omega arith;
   }
 
-  pub end-surveying : {t : List ℕ} {heights : List ℤ} {r : ℕ} → Loaded work t heights held → r ≡ run .rows → Surveying t held r
+  pub end-surveying : {t : List ℕ} {heights : List ℤ} {r : ℕ} → Loaded work t heights held → r ≡ run .rows
+      → Surveying t held r
   end-surveying h er = record {
     area = record {
       few = let c = g .cells in omega arith;
