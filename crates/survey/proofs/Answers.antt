@@ -20,11 +20,10 @@ use Rattle.relief.proofs.Lists.{entry-unique}
 use Rattle.words.specs.Words.{wordAt}
 use Rattle.words.proofs.Laws.{Bytes, bytes-beyond}
 use Rattle.area.specs.Area.{Area, levelIn, orderIn, parentIn, cellIn, markIn}
-use Rattle.sweep.specs.Sweep.{Surveyed, Shores}
-use Rattle.sweep.specs.Taking.{passOf, reachOf, shoreOf}
+use Rattle.sweep.specs.Sweep.{Surveyed, Shores, passOf, reachOf, shoreOf}
 use Rattle.survey.specs.declared.Part.{Part}
 use Rattle.survey.specs.declared.Part.the-variants.{Whole, Closing, Open}
-use Rattle.survey.specs.Collecting.{wantsPart, listedIn, openIn, chosenIn, Collected}
+use Rattle.survey.specs.Inner.{wantsPart, listedIn, openIn, chosenIn, Collected}
 use Rattle.survey.specs.Answers.{entryIn, Answered}
 use Rattle.survey.proofs.Places.{places-order}
 use Rattle.survey.proofs.CellKinds.{

@@ -1,2 +1,2 @@
-pub mod Collecting
 pub mod Answers
+pub mod Inner

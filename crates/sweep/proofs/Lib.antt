@@ -2,12 +2,13 @@ pub mod Tracked
 pub mod OneMore
 pub mod Joined
 pub mod Steps
-pub mod Neighbours
+pub mod PlanePlaces
 pub mod PlaceAnswers
 pub mod Bits
 pub mod Work
 pub mod Surroundings
 pub mod OnePlace
 pub mod Visits
+pub mod Orders
 pub mod SweepLoop
 pub mod Cleared

@@ -1,4 +1,4 @@
-pub mod Neighbours
 pub mod Sweep
+pub mod Places
 pub mod Joins
-pub mod Taking
+pub mod Inner
