@@ -1,11 +1,11 @@
--- `layout::is_sound_at` meets its contract: what its cell and its pass cell hold decides whether a record is sound.
+-- `sound::is_sound_at` meets its contract: what its cell and its pass cell hold decides whether a record is sound.
 -- Assumes nothing.
 use mathlib.Core.Path.{refl}
 use denote.Ref.{now}
 use borrow.Author.Needs.{needs}
-use Rattle.layout.proofs.Rows.{fetched}
-use Rattle.layout.proofs.soundness.is_sound_at.Statement.{statement}
-use Rattle.layout.proofs.soundness.is_sound_at.Tie as tie
+use Rattle.sound.proofs.Cells.{fetched}
+use Rattle.sound.proofs.is_sound_at.Statement.{statement}
+use Rattle.sound.proofs.is_sound_at.Tie as tie
 
 returns : tie.Need-returns
 returns c =

@@ -1,7 +1,7 @@
--- `layout::scanned` meets its contract: the test is that of `scannedOf`. Assumes nothing.
+-- `sound::scanned` meets its contract: the test is that of `scannedOf`. Assumes nothing.
 use borrow.Author.Tests.{lt-ltb, le-ltb}
-use Rattle.layout.proofs.soundness.scanned.Statement.{statement}
-use Rattle.layout.proofs.soundness.scanned.Tie as tie
+use Rattle.sound.proofs.scanned.Statement.{statement}
+use Rattle.sound.proofs.scanned.Tie as tie
 
 returns : tie.Need-returns
 returns c = rw (lt-ltb (c .before .args .state) 8589934592 (c .if1 .taken))

@@ -1,6 +1,6 @@
 -- Laws of sound records.
 --     decSound                 whether a record is sound can be decided
---     Scan hs ps i least       the records before the i-th are sound, and least is the least cell left to it
+--     SoundBefore hs ps i least       the records before the i-th are sound, and least is the least cell left to it
 --     scan-start, scan-step    how a scan goes on
 --     scan-stop, scan-done     how it ends: at an unsound record, or behind the last
 --     first-total              there is a first unsound record, or all are sound
@@ -23,8 +23,8 @@ use lib.ListN.{length, getD}
 use lib.Signed.{_<ℤ_, ltZ}
 use Rattle.relief.specs.Heights.{BLANK}
 use Rattle.record.specs.declared.Peak.{Peak}
-use Rattle.layout.specs.Sound.{Keyless, Keyed, Sound, recordAt, leastAt, FirstUnsound}
-use Rattle.layout.specs.Steps.{STOPPED, Scans, scannedOf}
+use Rattle.sound.specs.Sound.{Keyless, Keyed, Sound, ithOf, leastAt, FirstUnsound}
+use Rattle.sound.specs.Inner.{STOPPED, Scans, scannedOf}
 
 -- ---- decided
 
@@ -95,21 +95,21 @@ decSound hs least p = elim (decLt (p .cell) (length hs)) [
 
 -- ---- a scan
 
-pub record Scan (hs : List ℤ) (ps : List Peak) (i least : ℕ) : Type 0 where
+pub record SoundBefore (hs : List ℤ) (ps : List Peak) (i least : ℕ) : Type 0 where
   pub within : i ≤ length ps
   pub floor : least ≡ leastAt ps i
-  pub before : (j : ℕ) → j < i → Sound hs (leastAt ps j) (recordAt ps j)
+  pub before : (j : ℕ) → j < i → Sound hs (leastAt ps j) (ithOf ps j)
 
-pub scan-start : (hs : List ℤ) (ps : List Peak) → Scan hs ps 0 0
+pub scan-start : (hs : List ℤ) (ps : List Peak) → SoundBefore hs ps 0 0
 unfolding leastAt
 scan-start hs ps = record { within = omega arith; floor = refl; before = λ j l. absurd (omega arith) }
 
-module _ {hs : List ℤ} {ps : List Peak} {i least : ℕ} (scan : Scan hs ps i least) where
-  floored : Sound hs least (recordAt ps i) → Sound hs (leastAt ps i) (recordAt ps i)
+module _ {hs : List ℤ} {ps : List Peak} {i least : ℕ} (scan : SoundBefore hs ps i least) where
+  floored : Sound hs least (ithOf ps i) → Sound hs (leastAt ps i) (ithOf ps i)
   floored s = rw (scan .floor) at s
 
   pub scan-step :
-      i < length ps → Sound hs least (recordAt ps i) → Scan hs ps (suc i) (suc (recordAt ps i .cell))
+      i < length ps → Sound hs least (ithOf ps i) → SoundBefore hs ps (suc i) (suc (ithOf ps i .cell))
   unfolding leastAt
   scan-step l s = record {
     within = omega arith;
@@ -120,7 +120,7 @@ module _ {hs : List ℤ} {ps : List Peak} {i least : ℕ} (scan : Scan hs ps i l
     ];
   }
 
-  pub scan-stop : (Sound hs least (recordAt ps i) → ⊥) → FirstUnsound hs ps i
+  pub scan-stop : (Sound hs least (ithOf ps i) → ⊥) → FirstUnsound hs ps i
   scan-stop n = record {
     within = scan .within;
     before = scan .before;
@@ -139,15 +139,15 @@ module _ {hs : List ℤ} {ps : List Peak} {i least : ℕ} (scan : Scan hs ps i l
 pub first-total : (hs : List ℤ) (ps : List Peak) → (i : ℕ) × FirstUnsound hs ps i
 first-total hs ps = go (length ps) 0 0 (omega arith) (scan-start hs ps)
   where
-    go : (k i least : ℕ) → length ps ≤ i + k → Scan hs ps i least → (j : ℕ) × FirstUnsound hs ps j
+    go : (k i least : ℕ) → length ps ≤ i + k → SoundBefore hs ps i least → (j : ℕ) × FirstUnsound hs ps j
     go zero i least h scan = (i, scan-done scan (omega arith))
     go (suc k) i least h scan =
         let on :
-        i < length ps → Sound hs least (recordAt ps i) → (j : ℕ) × FirstUnsound hs ps j =
-        λ l s. go k (suc i) (suc (recordAt ps i .cell)) (omega arith) (scan-step scan l s) in
+        i < length ps → Sound hs least (ithOf ps i) → (j : ℕ) × FirstUnsound hs ps j =
+        λ l s. go k (suc i) (suc (ithOf ps i .cell)) (omega arith) (scan-step scan l s) in
         elim (decLt i (length ps)) [
           | no n ↦ (i, scan-done scan (omega arith))
-          | yes l ↦ elim (decSound hs least (recordAt ps i)) [
+          | yes l ↦ elim (decSound hs least (ithOf ps i)) [
             | no n ↦ (i, scan-stop scan n)
             | yes s ↦ on l s
           ]
@@ -185,7 +185,7 @@ first-few {i = suc i} first = omega (arith, below-cells first i (omega arith))
 
 pub first-all :
     {hs : List ℤ} {ps : List Peak} {i : ℕ} → FirstUnsound hs ps i →
-    ((j : ℕ) → j < length ps → Sound hs (leastAt ps j) (recordAt ps j)) → i ≡ length ps
+    ((j : ℕ) → j < length ps → Sound hs (leastAt ps j) (ithOf ps j)) → i ≡ length ps
 first-all {ps} {i} first all = elim (decLt i (length ps)) [
   | yes l ↦ absurd (first .here l (all i l))
   | no n ↦ let h = first .within in omega arith
@@ -196,18 +196,18 @@ first-all {ps} {i} first all = elim (decLt i (length ps)) [
 -- Before the i-th record, the scan goes on, or has stopped at the first unsound one.
 abbrev pub Scanned : List ℤ → List Peak → ℕ → ℕ → Type 0
 Scanned hs ps i state =
-    ((state < STOPPED) × Scan hs ps i state) ⊎ ((k : ℕ) × ((state ≡ STOPPED + k) × FirstUnsound hs ps k))
+    ((state < STOPPED) × SoundBefore hs ps i state) ⊎ ((k : ℕ) × ((state ≡ STOPPED + k) × FirstUnsound hs ps k))
 
 pub scanned-start : (hs : List ℤ) (ps : List Peak) → Scanned hs ps 0 0
 scanned-start hs ps = inl (omega arith, scan-start hs ps)
 
 pub scanned-step :
     {hs : List ℤ} {ps : List Peak} {i state next : ℕ} → Scanned hs ps i state → i < length ps →
-    Scans hs state i (recordAt ps i) next → Scanned hs ps (i + 1) next
-scanned-step {hs} {ps} {i} {state} {next} (inl s) l t = elim (decSound hs state (recordAt ps i)) [
+    Scans hs state i (ithOf ps i) next → Scanned hs ps (i + 1) next
+scanned-step {hs} {ps} {i} {state} {next} (inl s) l t = elim (decSound hs state (ithOf ps i)) [
   | yes sound ↦
       let n = t .sound (s .0) sound in
-      let e : suc (recordAt ps i .cell) ≡ next = omega (arith, n .0) in
+      let e : suc (ithOf ps i .cell) ≡ next = omega (arith, n .0) in
       let on = scan-step (s .1) l sound in
       inl (n .1, rw (add-one i) (rw e at on))
   | no unsound ↦ inr (i, (t .unsound (s .0) unsound, scan-stop (s .1) unsound))

@@ -1,13 +1,13 @@
--- `layout::scan` meets its contract, answer by answer. Assumes nothing.
+-- `sound::scan` meets its contract, answer by answer. Assumes nothing.
 use mathlib.Core.Path.{refl}
 use native.Mathlib.Omega.{arith}
 use borrow.Author.Needs.{needs}
-use Rattle.layout.proofs.soundness.scan.Statement.{statement}
-use Rattle.layout.proofs.soundness.scan.Tie as tie
+use Rattle.sound.proofs.scan.Statement.{statement}
+use Rattle.sound.proofs.scan.Tie as tie
 
 returns-2 : tie.Need-returns-2
 returns-2 c =
-    let sound = c .before .before .is-sound-at .ensures .yes (c .before .if2 .taken) in
+    let sound = c .before .before .is-sound-at .ensures .holds (c .before .if2 .taken) in
     record {
       stopped = λ h. absurd (omega arith);
       sound = λ h s. (c .next-cell .ensures .0, omega arith);
@@ -16,7 +16,7 @@ returns-2 c =
 
 returns-3 : tie.Need-returns-3
 returns-3 c =
-    let unsound = c .before .is-sound-at .ensures .no (c .if2 .left) in
+    let unsound = c .before .is-sound-at .ensures .fails (c .if2 .left) in
     record {
       stopped = λ h. absurd (omega arith);
       sound = λ h s. absurd (unsound s);

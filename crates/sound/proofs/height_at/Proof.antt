@@ -1,4 +1,4 @@
--- `layout::height_at` meets its contract. Within the row no default is read; behind it only that. Assumes nothing.
+-- `sound::height_at` meets its contract. Within the row no default is read; behind it only that. Assumes nothing.
 use mathlib.Core.Path.{sym, _∙_}
 use borrow.Author.Needs.{needs}
 use denote.Ref.{now}
@@ -7,9 +7,9 @@ use lib.ListN.{getD, List·getD-eq-default}
 use mir.Syntax.{w32}
 use mir.ValLaws.{toZ-ofZ}
 use Rattle.relief.specs.Heights.{BLANK}
-use Rattle.layout.proofs.Rows.{at-any}
-use Rattle.layout.proofs.soundness.height_at.Statement.{statement}
-use Rattle.layout.proofs.soundness.height_at.Tie as tie
+use Rattle.sound.proofs.Cells.{at-any}
+use Rattle.sound.proofs.height_at.Statement.{statement}
+use Rattle.sound.proofs.height_at.Tie as tie
 
 returns : tie.Need-returns
 returns c =
