@@ -1,19 +1,27 @@
+# make run proves and builds the program that lists a run file, and shows what it prints of a grid of three rows.
 # make test runs everything that can fail, the proofs last; its last line is 'N passed, 0 failed'.
-# make run proves and builds the program that lists a run file, and shows what it prints of the paper's three-row grid.
 # make bench compares the library with plain C++: the list, the run file, and a column call with a list.
+# Each says on standard error what it is doing and for how long; the times are those of two cores.
 .PHONY: test run bench layout pages tools peaks
 
 test:
+	@echo "test: layout, pages, tools, C++ tests, the program's files, then all proofs; some 20 minutes" >&2
 	@$(MAKE) --no-print-directory layout pages tools cpp-tools cpp-test peaks
+	@echo "test: proving every crate from nothing and trying every must-fail edit; some 15 minutes" >&2
 	@rt ci
 
-# rt runs the program on crates/peaks/stdin, on any processor, and keeps what it printed.
+# rt runs the program on crates/peaks/stdin, on any processor, and keeps what it printed. Of what rt says, the lines on
+# each crate are shown, and all of it if something is not proved.
 run:
 	@mkdir -p target
-	@rt check peaks > target/run.log 2>&1 || { cat target/run.log >&2; exit 1; }
+	@echo "run: proving peaks and each crate below it that changed; two to three minutes the first time" >&2
+	@{ rt check peaks 2>&1; echo $$? > target/run.status; } | tee target/run.log | sed -u -n 's/^rt: /run: /p' >&2
+	@test "$$(cat target/run.status)" = 0 || { cat target/run.log >&2; exit 1; }
 	@cat target/log/peaks.stdout
 
-bench: cpp-tools cpp-bench
+bench: cpp-tools
+	@echo "bench: times on x86-64, counts of instructions elsewhere, with plain C++ beside; some minutes" >&2
+	@$(MAKE) --no-print-directory cpp-bench
 
 layout:
 	@test -z "$$(rt fmt --check 2>&1)" || { rt fmt --check >&2; exit 1; }

@@ -7,7 +7,8 @@
 #     cpp-small         library and plain C++ agree on small grids, runs and files
 #     cpp-bench         times the library against plain C++; under an emulator it is cpp-instructions
 #     cpp-instructions  instructions per cell of library and reference, counted by the emulator
-#     cpp-tools         installs what cpp-test and cpp-bench need and the machine lacks, by apt-get
+#     cpp-tools         installs what cpp-test and cpp-bench need and the machine lacks, by apt-get: on x86-64 g++; on
+#                       another processor g++-x86-64-linux-gnu, qemu-user and g++
 #
 # The archive that rt writes is for x86-64. There the programs run directly; on another processor a cross compiler
 # builds them and qemu's user emulation runs them. Everything that is built goes to target/cpp.
@@ -117,6 +118,7 @@ $(CPP_OUT)/libsuite.a $(CPP_OUT)/libmeter.a: | $(CPP_OUT)
 	@cmp -s $< $@ || cp $< $@
 
 target/staticlib/lib%.a: cpp-always | $(CPP_OUT)
+	@echo "archive: proving $* and each crate below it that changed, for $@; two to three minutes the first time" >&2
 	@rt staticlib $* > $(CPP_OUT)/staticlib-$*.log 2>&1 || { cat $(CPP_OUT)/staticlib-$*.log >&2; exit 1; }
 
 $(CPP_OUT):
@@ -134,6 +136,7 @@ cpp-tools: | $(CPP_OUT)
 	    command -v "$${need%%:*}" > /dev/null || packages="$$packages $${need##*:}"; \
 	done; \
 	test -n "$$packages" || exit 0; \
+	echo "tools: installing$$packages by apt-get" >&2; \
 	root=; test "$$(id -u)" = 0 || root='sudo -n'; \
 	install="$$root env DEBIAN_FRONTEND=noninteractive apt-get install -y --no-install-recommends $$packages"; \
 	if { $$install || { $$root apt-get update && $$install; }; } > $(CPP_OUT)/tools.log 2>&1; \

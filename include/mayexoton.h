@@ -4,9 +4,19 @@
  * A chromatogram is a grid of heights. A peak is a flat (a connected set of cells of one height) that no higher cell
  * touches; cells touch sidewise and at corners. Its key height is the greatest height at which it is joined to ground
  * that outranks it: a higher cell, or an equally high peak whose cell is earlier. Height less key height is its
- * prominence. The rules, word by word, are those of document 01; docs/PROMISES.md has what is proved.
+ * prominence. docs/RULES.md has the rules word by word, docs/PROMISES.md what is proved.
  *
- * C99 and C++. All numbers in lent memory are 32 bits, little-endian, and need no alignment.
+ * C99 and C++, on x86-64 Linux. `rt staticlib suite` writes the archive to link:
+ *
+ *     g++ -std=c++17 -Iinclude PROGRAM.cpp target/staticlib/libsuite.a
+ *
+ * All numbers in lent memory are 32 bits, little-endian, and need no alignment. So on a little-endian machine, as
+ * x86-64 is, an array of int32_t is passed as its bytes, without a copy, and the table may be an array of structs:
+ *
+ *     struct record { uint32_t cell; int32_t height, key_height; uint32_t pass; };
+ *     mayexoton_list(rows, (const uint8_t *)heights, 4 * cells, 1, work, 16 * cells, (uint8_t *)table, 16 * cells);
+ *
+ * So far there is this one call, the list of a whole grid. Growing runs and run files can't be called from C.
  */
 #ifndef MAYEXOTON_H
 #define MAYEXOTON_H
@@ -55,11 +65,12 @@ extern "C" {
  *   heights  the heights in reading order: column by column, row 0 first. Cell number = column x rows + row.
  *            The columns are as many as the length gives, and may be none. Only read.
  *   work     room to work in. What it holds before does not matter, and what it holds afterwards means nothing.
- *   table    takes the records, in reading order of their cells: cell, height, key height, pass cell.
+ *   table    takes the records, in reading order of their cells: cell, height, key height, pass cell. A grid has no
+ *            more peaks than cells, so MAYEXOTON_RECORD_BYTES for each cell are always enough.
  *
- * Answers the number of records, or minus the number of a refusal. On success the bytes of the table behind the
- * counted records are as they were. A refusal leaves the table as it was, and the work area too, except that
- * MAYEXOTON_SHORT_TABLE may have used the work area.
+ * Answers the number of records, or minus the number of a refusal. At MAYEXOTON_SHORT_TABLE it does not tell how many
+ * records are needed. On success the bytes of the table behind the counted records are as they were. A refusal leaves
+ * the table as it was, and the work area too, except that at MAYEXOTON_SHORT_TABLE the work area has been used.
  *
  * The three areas must not overlap. A null pointer is fine where the length is 0. The call keeps nothing, allocates
  * nothing, and may run in any number of threads at once, each with areas of its own.

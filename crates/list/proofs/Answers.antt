@@ -1,198 +1,112 @@
--- The answers of the whole-grid call, and that its promise allows one answer and one row.
---     flat-*             the promise of `flat` at each return; the list is there whatever is refused
---     flat-fillable      what `flat` leaves may be filled into the row; after a refusal no record is
---     flat-lists         the row that is filled so keeps the promise of the whole call
---     list-unique        two answers that the promise allows are equal, and so are two rows, and two work areas where
---                        they are not used
+-- The whole-grid call: what its tests tell, and its promise with and without the row.
+--     tests-made       the tests made one after the other are those of the paper
+--     grid-good        what is known where none applies
+--     list-right       what a survey of the loaded heights leaves is the list
+--     grid-refused     the promise of a call that a test refuses; the list is there all the same
+--     grid-listed      the promise of one that does its work
 -- Assumes nothing.
-use mathlib.Core.Path.{_≡_, refl, sym, _∙_, ap, ap₂, subst}
-use mathlib.Core.List.{List, _++_, map}
+use mathlib.Core.Path.{_≡_, refl, sym, _∙_, ap, subst}
+use mathlib.Core.Bool.{Bool, not}
+use mathlib.Core.List.{List}
 use Prim.Native.Nat.{ℕ, _*_, _%_, _≤_, _<_}
+use native.Mathlib.Omega.{arith}
+use lib.Dec.{eqb, ltb}
 use lib.IntN.{ℤ}
-use lib.ListN.{length, drop}
-use borrow.Author.Tests.{eq-eqb, ne-eqb, lt-ltb, le-ltb}
+use lib.ListN.{length}
+use borrow.Author.Tests.{ltb-false}
 use Rattle.relief.specs.Heights.{levels}
 use Rattle.relief.specs.Peaks.{Entry, Listed, ListOf}
-use Rattle.relief.specs.Plane.{planeOf, touchOf}
 use Rattle.relief.specs.Inner.{cut}
-use Rattle.relief.proofs.Lists.{order-unique}
+use Rattle.relief.specs.Plane.{planeOf, touchOf}
 use Rattle.relief.proofs.Survey.{survey, survey-list}
 use Rattle.relief.proofs.Plane.{plane?}
 use Rattle.relief.proofs.PlaneRun.{plane-terrain}
-use Rattle.record.specs.declared.Peak.{Peak}
-use Rattle.record.specs.declared.Handed.{Handed}
-use Rattle.record.specs.declared.Handed.the-variants.{Count, Refused}
 use Rattle.record.specs.declared.Refusal.{Refusal}
-use Rattle.record.specs.declared.Refusal.the-variants.{Rows, Length, Cells, Work, Table}
-use Rattle.record.specs.Records.{recordOf}
-use Rattle.record.proofs.Refusals.{rows-none, rows-many, rows-right}
+use Rattle.record.specs.declared.Refusal.the-variants.{Rows, Length, Cells, Work}
+use Rattle.record.specs.declared.Checked.{Checked}
+use Rattle.record.specs.declared.Checked.the-variants.{Good, Bad}
+use Rattle.record.specs.declared.Handed.{Handed}
+use Rattle.record.specs.declared.Handed.the-variants.{Refused}
+use Rattle.record.specs.Refusals.{badRows, firstOf}
+use Rattle.record.specs.Inner.{thenTest}
+use Rattle.record.proofs.Refusals.{rows-known}
+use Rattle.record.proofs.Tests.{make, then, first-passed}
 use Rattle.area.specs.Area.{levelIn}
-use Rattle.table.specs.Promises.{tableAfter, Unused}
-use Rattle.table.specs.Inner.{Standing, recordsIn, Fillable, countIn, cellsRead}
-use Rattle.table.proofs.Handed.{
-  handed-fillable,
-  handed-filled,
-  refused-count,
-  count-same,
-  unused-early,
-  unused-short,
-  unused-count,
-  unused-unique,
-}
-use Rattle.survey.specs.Answers.{entriesIn, Loaded, Answered}
+use Rattle.table.specs.Inner.{roomAnswer}
+use Rattle.table.proofs.Handed.{worked-late, flat-refused, flat-made}
+use Rattle.survey.specs.Answers.{entriesIn, Loading, Loaded, Surveying, Answered}
 use Rattle.survey.proofs.Records.{places-record, places-length}
 use Rattle.survey.proofs.Marks.{loaded-levels}
-use Rattle.list.specs.Listing.{listAnswer, Lists, Flat}
+use Rattle.list.specs.Promises.{listTests}
+use Rattle.list.specs.Inner.{ListsFlat, GoodGrid}
 
--- ---- the list
+-- ---- the tests
 
-list-right : {rows T : ℕ} {heights : List ℤ} {s t left : List ℕ} {k : ℕ} → Loaded s t heights (length heights)
-    → Answered t left (length heights) (Listed (touchOf (planeOf rows)) (cut (length heights) (levelIn t)) T) k
-    → ListOf (touchOf (planeOf rows)) (levels heights) T (entriesIn left (length heights) k)
-list-right {rows} {T} {heights} {s} {t} {left} {k} loaded made =
-    subst (λ (L : ℕ → ℕ). ListOf (touchOf (planeOf rows)) L T (entriesIn left (length heights) k)) (loaded-levels refl loaded)
-    (made .order)
+-- u is whether the cells make no whole columns of r rows, as the code has them
+pub tests-made : (rows cells work : ℕ) {r : ℕ} {bad u short : Bool} {a b c d : Checked} → r ≡ rows
+    → bad ≡ badRows rows → u ≡ not (eqb (cells % r) 0) → short ≡ ltb work (16 * cells)
+    → a ≡ thenTest Good bad Rows → b ≡ thenTest a u Length → c ≡ thenTest b (ltb 1048576 cells) Cells
+    → d ≡ thenTest c short Work → d ≡ firstOf (listTests rows cells work)
+unfolding listTests
+tests-made rows cells work er e-bad e-u e-short ea eb ec ed =
+    then Work (then Cells (then Length (make Rows ea e-bad) eb
+    (e-u ∙ ap (λ (k : ℕ). not (eqb (cells % k) 0)) er)) ec refl) ed e-short .answer
 
-list-length : (left : List ℕ) (n k : ℕ) → length (entriesIn left n k) ≡ k
-list-length left n k = places-length _ k
+pub grid-good : (rows cells work : ℕ) → firstOf (listTests rows cells work) ≡ Good → GoodGrid rows cells work
+unfolding listTests
+grid-good rows cells work good =
+    let (no-rows, (no-length, (no-cells, (no-work, u)))) = first-passed (listTests rows cells work) good in
+    let (some, few) = rows-known rows no-rows in
+    record {
+      good = good;
+      some = omega arith;
+      few = few;
+      fits = ltb-false 1048576 cells no-cells;
+      space = ltb-false work (16 * cells) no-work;
+    }
 
--- ---- the answers
+-- ---- what the calls below ask
 
--- what is answered once the list is known, of k entries
-module _ (rows cells work room : ℕ) (some : rows ≡ 0 → ⊥) (few : rows ≤ 1024) (whole : cells % rows ≡ 0)
-    (fits : cells ≤ 1048576) (space : 16 * cells ≤ work) (k : ℕ) where
-  answer-short : room < k → Refused (Table k) ≡ listAnswer rows cells work room k
-  unfolding listAnswer
-  answer-short l = simp (
-    rows-right some few,
-    eq-eqb (cells % rows) 0 whole,
-    le-ltb 1048576 cells fits,
-    le-ltb work (16 * cells) space,
-    lt-ltb room k l,
-  )
+module _ {rows cells work : ℕ} (g : GoodGrid rows cells work) where
+  pub grid-loading : {s : List ℕ} {heights : List ℤ} → length s ≡ work → length heights ≡ cells
+      → Loading s heights cells
+  grid-loading e f = record {
+    area = record { few = g .fits; room = let h = g .space in omega arith };
+    all = omega arith;
+  }
 
-  answer-count : k ≤ room → Count k ≡ listAnswer rows cells work room k
-  unfolding listAnswer
-  answer-count l = simp (
-    rows-right some few,
-    eq-eqb (cells % rows) 0 whole,
-    le-ltb 1048576 cells fits,
-    le-ltb work (16 * cells) space,
-    le-ltb room k l,
-  )
+  pub grid-surveying : {s t : List ℕ} {heights : List ℤ} {r : ℕ} → length s ≡ work → Loaded s t heights cells → r ≡ rows
+      → Surveying t cells r
+  grid-surveying e h q = record {
+    area = record { few = g .fits; room = let i = h .len in let j = g .space in omega arith };
+    rows-some = let h = g .some in omega arith;
+    rows-few = let h = g .few in omega arith;
+  }
 
--- ---- `flat` at each return
+  -- so many cells are counted in 32 bits
+  pub grid-few : {s t : List ℕ} {P : Entry → Type 0} {k : ℕ} → Answered s t cells P k → k < 4294967296
+  grid-few h = let i = h .counted .few in let j = g .fits in omega arith
 
-module _ {rows : ℕ} {heights : List ℤ} {T room : ℕ} {work left : List ℕ} where
+-- ---- the promise
+
+module _ (rows : ℕ) (heights : List ℤ) (T room : ℕ) (work : List ℕ) {left : List ℕ} where
   -- refused before the list is made: it is there all the same
-  refused-early : {r : Refusal} → left ≡ work
-      → ((k : ℕ) → Refused r ≡ listAnswer rows (length heights) (length work) room k)
-      → Flat rows heights T work room left (Refused r)
-  refused-early same e = record {
-    list = survey (plane? rows) (levels heights) (length heights) T;
-    right = survey-list (plane-terrain rows heights) T;
-    answered = e (length (survey (plane? rows) (levels heights) (length heights) T));
-    counted = λ n q. absurd (refused-count q);
-    records = λ n q. absurd (refused-count q);
-    unused = unused-early same;
-  }
+  pub grid-refused : {r : Refusal} → firstOf (listTests rows (length heights) (length work)) ≡ Bad r → left ≡ work
+      → ListsFlat rows heights T work room left (Refused r)
+  grid-refused bad same =
+      flat-refused (listTests rows (length heights) (length work))
+      (survey (plane? rows) (levels heights) (length heights) T) (survey-list (plane-terrain rows heights) T) bad same
 
-  pub flat-no-rows : left ≡ work → rows ≡ 0 → Flat rows heights T work room left (Refused Rows)
-  unfolding listAnswer
-  flat-no-rows same e = refused-early same (λ k. simp (rows-none e))
-
-  module _ (some : rows ≡ 0 → ⊥) where
-    pub flat-many-rows : left ≡ work → 1024 < rows → Flat rows heights T work room left (Refused Rows)
-    unfolding listAnswer
-    flat-many-rows same l = refused-early same (λ k. simp (rows-many l))
-
-    module _ (few : rows ≤ 1024) where
-      pub flat-length : left ≡ work → (length heights % rows ≡ 0 → ⊥)
-          → Flat rows heights T work room left (Refused Length)
-      unfolding listAnswer
-      flat-length same d =
-          refused-early same (λ k. simp (rows-right some few, ne-eqb (length heights % rows) 0 d))
-
-      module _ (whole : length heights % rows ≡ 0) where
-        pub flat-cells : left ≡ work → 1048576 < length heights → Flat rows heights T work room left (Refused Cells)
-        unfolding listAnswer
-        flat-cells same l =
-            refused-early same (λ k. simp (
-              rows-right some few,
-              eq-eqb (length heights % rows) 0 whole,
-              lt-ltb 1048576 (length heights) l,
-            ))
-
-        module _ (fits : length heights ≤ 1048576) where
-          pub flat-work : left ≡ work → length work < 16 * length heights
-              → Flat rows heights T work room left (Refused Work)
-          unfolding listAnswer
-          flat-work same l =
-              refused-early same (λ k. simp (
-                rows-right some few,
-                eq-eqb (length heights % rows) 0 whole,
-                le-ltb 1048576 (length heights) fits,
-                lt-ltb (length work) (16 * length heights) l,
-              ))
-
-          module _ (space : 16 * length heights ≤ length work) {s t : List ℕ} {k : ℕ}
-              (loaded : Loaded s t heights (length heights)) (made : Answered t left (length heights)
-              (Listed (touchOf (planeOf rows)) (cut (length heights) (levelIn t)) T) k) where
-            pub flat-short : {m : ℕ} → m ≡ k → room < k → Flat rows heights T work room left (Refused (Table m))
-            flat-short e l = record {
-              list = entriesIn left (length heights) k;
-              right = list-right loaded made;
-              answered = ap (λ (x : ℕ). Refused (Table x)) e
-                  ∙ answer-short rows (length heights) (length work) room some few whole fits space k l
-                  ∙ ap (listAnswer rows (length heights) (length work) room)
-                  (sym (list-length left (length heights) k));
-              counted = λ n q. absurd (refused-count q);
-              records = λ n q. absurd (refused-count q);
-              unused = unused-short;
-            }
-
-            pub flat-count : {m : ℕ} → m ≡ k → k ≤ room → Flat rows heights T work room left (Count m)
-            flat-count e l = record {
-              list = entriesIn left (length heights) k;
-              right = list-right loaded made;
-              answered = ap Count e
-                  ∙ answer-count rows (length heights) (length work) room some few whole fits space k l
-                  ∙ ap (listAnswer rows (length heights) (length work) room)
-                  (sym (list-length left (length heights) k));
-              counted = λ n q. let f = sym e ∙ count-same q in
-                  (subst (Standing left (length heights)) f (made .counted), subst (λ (x : ℕ). x ≤ room) f l);
-              records = λ n q. let f = sym e ∙ count-same q in
-                  ap (recordsIn left (length heights)) (sym f) ∙ places-record left (length heights) k;
-              unused = unused-count;
-            }
-
--- ---- the row
-
-module _ {rows : ℕ} {heights : List ℤ} {T : ℕ} {work : List ℕ} (table : List Peak) {left : List ℕ} where
-  pub flat-fillable : (a : Handed) → Flat rows heights T work (length table) left a
-      → Fillable table left (cellsRead a (length heights)) (countIn a)
-  flat-fillable a h = handed-fillable table left a (λ n e. refl) (h .counted)
-
-  pub flat-lists : (a : Handed) → Flat rows heights T work (length table) left a → {t : List Peak}
-      → t ≡ recordsIn left (cellsRead a (length heights)) (countIn a) ++ drop (countIn a) table
-      → Lists rows heights T work left table t a
-  flat-lists a h e = record {
-    list = h .list;
-    right = h .right;
-    answered = h .answered;
-    filled = e ∙ handed-filled table left a (λ n q. refl) (h .records);
-    unused = h .unused;
-  }
-
--- ---- one answer
-
-pub list-unique : {rows : ℕ} {heights : List ℤ} {T : ℕ} {work w v : List ℕ} {table t u : List Peak} {a b : Handed}
-    → Lists rows heights T work w table t a → Lists rows heights T work v table u b
-    → (a ≡ b) × (t ≡ u) × Unused a w v
-list-unique {rows} {heights} {T} {work} {w} {v} {table} {t} {u} {a} {b} h k =
-    let e : h .list ≡ k .list = order-unique (h .list) (k .list) (h .right) (k .right) in
-    let q : a ≡ b = h .answered
-    ∙ ap (λ (l : List Entry). listAnswer rows (length heights) (length work) (length table) (length l)) e
-    ∙ sym (k .answered) in
-    let f = ap₂ (λ (x : Handed) (l : List Entry). tableAfter x (map recordOf l) table) q e in
-    (q, h .filled ∙ f ∙ sym (k .filled), unused-unique q (h .unused) (k .unused))
+  pub grid-listed : GoodGrid rows (length heights) (length work) → {t : List ℕ} {k : ℕ} {a : Handed}
+      → Loaded work t heights (length heights)
+      → Answered t left (length heights) (Listed (touchOf (planeOf rows)) (cut (length heights) (levelIn t)) T) k
+      → a ≡ roomAnswer room k → ListsFlat rows heights T work room left a
+  grid-listed g {t} {k} loaded made =
+      flat-made (listTests rows (length heights) (length work)) (entriesIn left (length heights) k) right (g .good)
+      (worked-late (g .good) (made .len ∙ loaded .len) ?)
+      (sym (places-length _ k)) (made .counted) (places-record left (length heights) k)
+    where
+      right : ListOf (touchOf (planeOf rows)) (levels heights) T (entriesIn left (length heights) k)
+      right =
+          subst (λ (L : ℕ → ℕ). ListOf (touchOf (planeOf rows)) L T (entriesIn left (length heights) k))
+          (loaded-levels refl loaded) (made .order)

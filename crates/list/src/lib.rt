@@ -1,39 +1,46 @@
 // The whole-grid call: the flat core behind the refusals, and the lent row of records filled from it.
-ghost use Rattle.list.specs.Listing.{Lists, Flat};
+ghost use mathlib.Core.Path.{_≡_};
+ghost use lib.ListN.{length};
+ghost use Rattle.record.specs.Refusals.{firstOf};
+ghost use Rattle.list.specs.Promises.{listTests, Lists};
+ghost use Rattle.list.specs.Inner.{ListsFlat, GoodGrid};
 use record::Cell;
+use record::Checked;
 use record::Handed;
 use record::Peak;
 use record::Refusal;
 
+// The tests before the work, in the paper's order.
+fn check(rows: u32, cells: usize, work: usize) -> Checked
+    ensures { λ r. ⌜ r ≡ firstOf (listTests rows cells work) ⌝ }
+{
+    let uneven = record::uneven(cells, words::index(rows));
+    let checked = record::then_test(Checked::Good, record::bad_rows(rows), Refusal::Rows);
+    let checked = record::then_test(checked, uneven, Refusal::Length);
+    let checked = record::then_test(checked, Cell::MAX_CELLS < cells, Refusal::Cells);
+    record::then_test(checked, record::short_work(work, cells), Refusal::Work)
+}
+
+// The list of a grid that passed the tests before the work.
+fn flat_good(rows: u32, heights: &[i32], threshold: u32, work: &mut [u8], room: usize) -> Handed
+    requires { ⌜ GoodGrid rows (length (now heights)) (length (now work)) ⌝ }
+    ensures { λ r. ⌜ ListsFlat rows (now (heights .entry)) threshold (now (work .entry)) room (now (work .exit)) r ⌝ }
+{
+    let n = heights.len();
+    survey::load(work, heights, n);
+    let count = survey::whole(work, n, words::index(rows), threshold);
+    table::room_answer(count, room)
+}
+
 // The whole-grid call without the table, of which only the room counts: the records are left in the work area.
 pub fn flat(rows: u32, heights: &[i32], threshold: u32, work: &mut [u8], room: usize) -> Handed
-    ensures { λ r. ⌜ Flat rows (now (heights .entry)) threshold (now (work .entry)) room (now (work .exit)) r ⌝ }
+    ensures { λ r. ⌜ ListsFlat rows (now (heights .entry)) threshold (now (work .entry)) room (now (work .exit)) r ⌝ }
 {
-    if rows == 0 {
-        return Handed::Refused(Refusal::Rows);
+    let checked = check(rows, heights.len(), work.len());
+    match checked {
+        Checked::Bad(refusal) => Handed::Refused(refusal),
+        Checked::Good => flat_good(rows, heights, threshold, work, room),
     }
-    if Cell::MAX_ROWS < rows {
-        return Handed::Refused(Refusal::Rows);
-    }
-    let r = words::index(rows);
-    let n = heights.len();
-    if n % r != 0 {
-        return Handed::Refused(Refusal::Length);
-    }
-    if Cell::MAX_CELLS < n {
-        return Handed::Refused(Refusal::Cells);
-    }
-    if work.len() < 16 * n {
-        return Handed::Refused(Refusal::Work);
-    }
-    survey::load(work, heights, n);
-    let count = survey::whole(work, n, r, threshold);
-    if room < count {
-        return Handed::Refused(Refusal::Table {
-            needed: count as u32,
-        });
-    }
-    Handed::Count(count as u32)
 }
 
 // The whole-grid call: lists the peaks of a grid of `rows` rows into a lent row of records.

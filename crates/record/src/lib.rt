@@ -1,9 +1,11 @@
 // The cell and record types, their constants and constructors, level and prominence, answers and refusals.
 ghost use mathlib.Core.Bool.{not};
 ghost use mathlib.Core.Path.{_≡_};
+ghost use Prim.Native.Nat.{_*_, _%_};
+ghost use lib.Dec.{eqb, ltb};
 ghost use Rattle.relief.specs.Heights.{levelOf};
 ghost use Rattle.record.specs.Records.{isMark, withKey, withoutKey, Prominent};
-ghost use Rattle.record.specs.Refusals.{toldOf};
+ghost use Rattle.record.specs.Refusals.{toldOf, badRows};
 ghost use Rattle.record.specs.Inner.{thenTest};
 
 // What a cell of the grid holds: a height, or the blank mark.
@@ -140,6 +142,34 @@ pub fn then_test(checked: Checked, applies: bool, refusal: Refusal) -> Checked
             checked
         }
     }
+}
+
+// Whether a number of rows is refused by 1.
+pub fn bad_rows(rows: u32) -> bool
+    ensures { λ r. ⌜ r ≡ badRows rows ⌝ }
+{
+    if rows == 0 {
+        return true;
+    }
+    Cell::MAX_ROWS < rows
+}
+
+// Whether so many numbers do not make whole columns of `rows`. For no rows the answer is the definition's, which no
+// call comes to: 1 is before it in every order.
+pub fn uneven(numbers: usize, rows: usize) -> bool
+    ensures { λ r. ⌜ r ≡ not (eqb (numbers % rows) 0) ⌝ }
+{
+    if rows == 0 {
+        return numbers != 0;
+    }
+    numbers % rows != 0
+}
+
+// Whether a work area of so many bytes is refused by 4. The bytes are divided: 16 times the cells may not fit.
+pub fn short_work(work: usize, cells: usize) -> bool
+    ensures { λ r. ⌜ r ≡ ltb work (16 * cells) ⌝ }
+{
+    work / 16 < cells
 }
 
 // What a call that fills a peak table answers: how many peaks are handed out, or why it is refused.

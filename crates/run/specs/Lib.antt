@@ -1,3 +1,4 @@
-pub mod Running
-pub mod Sessions
+pub mod Promises
+pub mod Inner
+pub mod WholeRun
 pub mod Claims

@@ -1,32 +1,31 @@
 -- From a sweep and a collection to the list, the batch and the rest of the definitions.
 --     listed-decides     every cell swept is a peak that is listed or not, as the work area tells it
 --     closed-decides     and closed or open
---     answer-order       so the cells collected are just the entries that are handed out, in reading order
+--     answered           so the cells collected are just the entries that are handed out, in reading order
 -- Assumes nothing.
 use mathlib.Core.Path.{_≡_, refl, sym, _∙_, ap, subst}
 use mathlib.Core.Bool.{Bool, true, false, not, _&&_}
 use mathlib.Core.List.{List}
 use Prim.Native.Nat.{ℕ, _+_, _-_, _*_, _≤_, _<_, zero-le}
 use native.Mathlib.Omega.{arith}
+use lib.ListN.{length}
 use borrow.Author.Tests.{le-leb}
 use Rattle.relief.specs.Peaks.{Key, missing, key, Entry, floorOf, Peak, PeakEntry, Listed, Wanted, KeyOf}
-use Rattle.relief.specs.Peaks.{InReadingOrder}
 use Rattle.relief.specs.Runs as Runs
 use Rattle.relief.specs.Runs.{Stage, Closed, Remaining}
 use Rattle.relief.specs.Inner.{Decides}
 use Rattle.relief.proofs.Tests.{split, true-not-false, le-or-lt, le-decides, and-decides, not-decides, decides-iff}
 use Rattle.relief.proofs.Tests.{passes}
-use Rattle.relief.proofs.Flats.{Terrain, land-below}
 use Rattle.relief.proofs.Lists.{entry-unique}
 use Rattle.words.specs.Words.{wordAt}
+use Rattle.words.proofs.Laws.{Bytes, bytes-beyond}
 use Rattle.area.specs.Area.{Area, levelIn, orderIn, parentIn, cellIn, markIn}
 use Rattle.sweep.specs.Sweep.{Surveyed, Shores}
 use Rattle.sweep.specs.Taking.{passOf, reachOf, shoreOf}
-use Rattle.table.specs.Inner.{Standing}
 use Rattle.survey.specs.declared.Part.{Part}
 use Rattle.survey.specs.declared.Part.the-variants.{Whole, Closing, Open}
 use Rattle.survey.specs.Collecting.{wantsPart, listedIn, openIn, chosenIn, Collected}
-use Rattle.survey.specs.Answers.{entryIn, entriesIn}
+use Rattle.survey.specs.Answers.{entryIn, Answered}
 use Rattle.survey.proofs.Places.{places-order}
 use Rattle.survey.proofs.CellKinds.{
   always,
@@ -49,16 +48,20 @@ use Rattle.survey.proofs.CellKinds.{
   hung,
 }
 
+-- t is s behind the work area, and as long
+pub record Behind (s t : List ℕ) (n : ℕ) : Type 0 where
+  pub numbers : (j : ℕ) → 4 * n ≤ j → wordAt t j ≡ wordAt s j
+  pub len : length t ≡ length s
+
 -- a work area in which a sweep is done: L is the level of each cell below the limit
-pub record Settled (touch : ℕ → ℕ → Type 0) (touch? : ℕ → ℕ → Bool) (L : ℕ → ℕ) (newest limit : ℕ) (t : List ℕ)
-    (n : ℕ) : Type 0 where
-  pub terrain : Terrain touch touch? L limit
+pub record Settled (touch : ℕ → ℕ → Type 0) (L : ℕ → ℕ) (newest limit : ℕ) (t : List ℕ) (n : ℕ) : Type 0 where
+  pub ends : (c : ℕ) → limit ≤ c → L c ≡ 0
   pub same : (c : ℕ) → c < limit → levelIn t c ≡ L c
   pub surveyed : Surveyed touch L newest limit (parentIn t n) (passOf t n) (reachOf t n) (shoreOf t n)
   pub held : (c : ℕ) → c < limit → 0 < L c → passOf t n c < limit
 
-module _ {touch : ℕ → ℕ → Type 0} {touch? : ℕ → ℕ → Bool} {L : ℕ → ℕ} {newest limit : ℕ} {t : List ℕ} {n : ℕ}
-    (r : Settled touch touch? L newest limit t n) where
+module _ {touch : ℕ → ℕ → Type 0} {L : ℕ → ℕ} {newest limit : ℕ} {t : List ℕ} {n : ℕ}
+    (r : Settled touch L newest limit t n) where
   abbrev stage : Stage
   stage = record { level = L; cells = limit; newest = newest }
 
@@ -168,7 +171,9 @@ module _ {touch : ℕ → ℕ → Type 0} {touch? : ℕ → ℕ → Bool} {L : �
 
   pub entry-only : (e : Entry) → PeakEntry touch L e → (e .cell < limit) × (e ≡ entryIn t n (e .cell))
   entry-only e h =
-      let l = land-below (r .terrain) (e .cell) (h .peak .land) in
+      let l : e .cell < limit =
+      split (le-or-lt limit (e .cell))
+      (λ m. let z = r .ends (e .cell) m in let p = h .peak .land in absurd (omega arith)) (λ m. m) in
       (l, entry-unique e (entryIn t n (e .cell)) h (entry-right (e .cell) l (h .peak)) (sym (entry-cell t n (e .cell))))
 
   -- ---- what is handed out, cell by cell
@@ -263,30 +268,34 @@ module _ {touch : ℕ → ℕ → Type 0} {touch? : ℕ → ℕ → Bool} {L : �
         word-same (passOf t n c) (λ a b. omega arith) in
         rw (e3, e4, e1, e2)
 
-    pub answer-counted : Area t n → Standing u n count
-    answer-counted a = record {
-      area = record { few = a .few; room = let e = g .len in let b = a .room in omega arith };
-      few = let f = g .few in omega arith;
-      cells = λ i l. let (b, e) = g .inside i l in omega arith;
-      passes = λ i l.
-          let (b, e) = g .inside i l in
-          let m = chosen-land T part (orderIn u n i) e in
-          let p = pass-here (orderIn u n i) b m in
-          let w = ap cellIn (word-same (3 * n + orderIn u n i) (λ a b. omega arith)) in
-          omega arith;
-    }
-
-    pub answer-order : (P : Entry → Type 0)
+    -- what is collected is the answer to a survey of s, if it is told by P and the rest of the work area is that of s
+    pub answered : {s : List ℕ} {P : Entry → Type 0}
         → ((c : ℕ) → c < limit → Decides (P (entryIn t n c)) (chosenIn t n T part c))
-        → ((e : Entry) → P e → PeakEntry touch L e) → InReadingOrder P (entriesIn u n count)
-    answer-order P told right =
-        places-order (λ i. entryIn u n (orderIn u n i)) P count
-        (λ i j l m. rw (entry-cell u n (orderIn u n i), entry-cell u n (orderIn u n j)) (g .rising i j l m))
-        (λ i l. let (b, e) = g .inside i l in
-        subst P (sym (entry-same (orderIn u n i) b (chosen-land T part (orderIn u n i) e)))
-        (told (orderIn u n i) b .holds e))
-        (λ e p.
-        let (b, q) = entry-only e (right e p) in
-        let f = passes (told (e .cell) b) (subst P q p) in
-        let (i, l, o) = g .onto (e .cell) b f in
-        (i, l, q ∙ sym (entry-same (e .cell) b (chosen-land T part (e .cell) f)) ∙ ap (entryIn u n) (sym o)))
+        → ((e : Entry) → P e → PeakEntry touch L e)
+        → Area t n → Behind s t n → Bytes s → Bytes u → Answered s u n P count
+    answered {s} {P} told right a k bs bu = record {
+      counted = record {
+        area = record { few = a .few; room = let e = g .len in let b = a .room in omega arith };
+        few = let f = g .few in omega arith;
+        cells = λ i l. let (b, e) = g .inside i l in omega arith;
+        passes = λ i l.
+            let (b, e) = g .inside i l in
+            let m = chosen-land T part (orderIn u n i) e in
+            let p = pass-here (orderIn u n i) b m in
+            let w = ap cellIn (word-same (3 * n + orderIn u n i) (λ a b. omega arith)) in
+            omega arith;
+      };
+      order = places-order (λ i. entryIn u n (orderIn u n i)) P count
+          (λ i j l m. rw (entry-cell u n (orderIn u n i), entry-cell u n (orderIn u n j)) (g .rising i j l m))
+          (λ i l. let (b, e) = g .inside i l in
+          subst P (sym (entry-same (orderIn u n i) b (chosen-land T part (orderIn u n i) e)))
+          (told (orderIn u n i) b .holds e))
+          (λ e p.
+          let (b, q) = entry-only e (right e p) in
+          let f = passes (told (e .cell) b) (subst P q p) in
+          let (i, l, o) = g .onto (e .cell) b f in
+          (i, l, q ∙ sym (entry-same (e .cell) b (chosen-land T part (e .cell) f)) ∙ ap (entryIn u n) (sym o)));
+      beyond = λ i l. bytes-beyond s u bs bu (4 * n)
+          (λ j m. word-same j (λ a b. omega arith) ∙ k .numbers j m) i (omega arith);
+      len = g .len ∙ k .len;
+    }

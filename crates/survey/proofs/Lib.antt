@@ -4,4 +4,5 @@ pub mod CellKinds
 pub mod Answers
 pub mod Surveys
 pub mod Marks
+pub mod Loads
 pub mod Records

@@ -1,19 +1,19 @@
 -- Calls that hand out records: their promise at each kind of return, the lent row filled from what a flat call leaves,
 -- and that the promise allows one outcome.
 --     worked-early, worked-late         the work area where a test refuses, and where none does
---     flat-refused, -short, -count      the promise of a flat call that a test refuses, at 5, and on success
+--     flat-refused, flat-made           the promise of a flat call that a test refuses, and of one that does its work
 --     standing-none                     no record of no cell can be read
 --     flat-fillable, flat-hands         what it leaves may be filled into the row, and keeps the whole call's promise
 --     hands-unique, flat-unique         one outcome, where just one list is right
 -- Assumes nothing.
 use mathlib.Core.Path.{_≡_, refl, sym, _∙_, ap, ap₂, subst, subst₂}
-use mathlib.Core.Bool.{Bool, cond}
+use mathlib.Core.Bool.{Bool, true, false, cond}
 use mathlib.Core.List.{List, [], _∷_, _++_, map}
 use Prim.Native.Nat.{ℕ, _*_, _≤_, _<_}
 use native.Mathlib.Omega.{arith}
 use lib.Dec.{ltb}
 use lib.ListN.{length, drop, getD}
-use borrow.Author.Tests.{lt-ltb, le-ltb}
+use borrow.Author.Tests.{lt-ltb, le-ltb, ltb-true, ltb-false}
 use Rattle.relief.specs.Peaks.{Entry}
 use Rattle.record.specs.declared.Peak.{Peak}
 use Rattle.record.specs.declared.Handed.{Handed}
@@ -27,7 +27,7 @@ use Rattle.record.specs.Refusals.{granted, checkedTold, firstOf, handedTold}
 use Rattle.record.proofs.Refusals.{handed-differ}
 use Rattle.record.proofs.Tests.{bad-not-good, first-end, first-bad}
 use Rattle.table.specs.Promises.{handedBy, tableAfter, Worked, Hands}
-use Rattle.table.specs.Inner.{Standing, recordsIn, Fillable, countIn, cellsRead, HandsFlat}
+use Rattle.table.specs.Inner.{Standing, recordsIn, Fillable, roomAnswer, countIn, cellsRead, HandsFlat}
 use Rattle.table.proofs.Laws.{filled-start}
 
 pub refused-count : {r : Refusal} {n : ℕ} → Refused r ≡ Count n → ⊥
@@ -85,9 +85,11 @@ module _ (tests : List (Bool × Refusal)) {cells : ℕ} {Right : List Entry → 
     worked = worked-early same;
   }
 
-  module _ (good : firstOf tests ≡ Good) (worked : Worked tests cells work left) {m : ℕ} (e : m ≡ length entries) where
-    pub flat-short : room < m → HandsFlat tests cells Right work room left (Refused (Table m))
-    flat-short l = record {
+  -- the work is done, and m entries stand in the work area
+  module _ (good : firstOf tests ≡ Good) (worked : Worked tests cells work left) {m : ℕ} (e : m ≡ length entries)
+      (stand : Standing left cells m) (told : recordsIn left cells m ≡ map recordOf entries) where
+    short : room < m → HandsFlat tests cells Right work room left (Refused (Table m))
+    short l = record {
       entries = entries;
       right = right;
       answered = ap (λ (n : ℕ). handedTold (Refused (Table n))) e
@@ -97,18 +99,25 @@ module _ (tests : List (Bool × Refusal)) {cells : ℕ} {Right : List Entry → 
       worked = worked;
     }
 
-    pub flat-count : m ≤ room → Standing left cells m → recordsIn left cells m ≡ map recordOf entries
-        → HandsFlat tests cells Right work room left (Count m)
-    flat-count l stand records = record {
+    enough : m ≤ room → HandsFlat tests cells Right work room left (Count m)
+    enough l = record {
       entries = entries;
       right = right;
       answered = ap (λ (n : ℕ). handedTold (Count n)) e
           ∙ sym (told-end tests room (length entries) good (le-ltb room (length entries) (omega arith)));
       standing = λ n q.
           (subst (Standing left cells) (count-same q) stand, subst (λ (x : ℕ). x ≤ room) (count-same q) l);
-      records = λ n q. ap (recordsIn left cells) (sym (count-same q)) ∙ records;
+      records = λ n q. ap (recordsIn left cells) (sym (count-same q)) ∙ told;
       worked = worked;
     }
+
+    pub flat-made : {a : Handed} → a ≡ roomAnswer room m → HandsFlat tests cells Right work room left a
+    flat-made q = subst (HandsFlat tests cells Right work room left) (sym q) (go (ltb room m) refl)
+      where
+        go : (b : Bool) → ltb room m ≡ b
+            → HandsFlat tests cells Right work room left (cond b (Refused (Table m)) (Count m))
+        go true f = short (ltb-true room m f)
+        go false f = enough (ltb-false room m f)
 
 -- ---- the row
 

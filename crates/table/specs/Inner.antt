@@ -4,14 +4,15 @@
 --     recordsIn s n count     the records of the first so many cells of the order quarter
 --     Fillable t s n count    the row t has room for them, and the work area s holds cells where they are asked for
 --     Standing s n count      so many listed cells stand in the order quarter, each with a pass cell
+--     roomAnswer room count   the answer of a call whose work is done
 --     countIn, cellsRead      how many records an answer has, and of how many cells they are read
 --     HandsFlat               what a call promises that knows only the room of the row
 -- Assumes nothing.
 use mathlib.Core.Path.{_≡_}
-use mathlib.Core.Bool.{Bool, true, false}
+use mathlib.Core.Bool.{Bool, true, false, cond}
 use mathlib.Core.List.{List, [], _∷_, _++_, map}
 use Prim.Native.Nat.{ℕ, zero, suc, _≤_, _<_}
-use lib.Dec.{eqb}
+use lib.Dec.{eqb, ltb}
 use lib.ListN.{length}
 use Rattle.relief.specs.Heights.{heightOf}
 use Rattle.relief.specs.Peaks.{Entry}
@@ -19,6 +20,7 @@ use Rattle.record.specs.declared.Peak.{Peak}
 use Rattle.record.specs.declared.Handed.{Handed}
 use Rattle.record.specs.declared.Handed.the-variants.{Count, Refused}
 use Rattle.record.specs.declared.Refusal.{Refusal}
+use Rattle.record.specs.declared.Refusal.the-variants.{Table}
 use Rattle.record.specs.Records.{withKey, withoutKey, recordOf}
 use Rattle.record.specs.Refusals.{handedTold}
 use Rattle.area.specs.Area.{Area, levelIn, orderIn, parentIn, passIn, cellIn}
@@ -52,6 +54,10 @@ pub record Standing (s : List ℕ) (n count : ℕ) : Type 0 where
 pub record Fillable (t : List Peak) (s : List ℕ) (n count : ℕ) : Type 0 where
   pub standing : Standing s n count
   pub room : count ≤ length t
+
+-- 5 behind the work: "peak table too short", which also returns "the number of records needed"
+abbrev pub roomAnswer : ℕ → ℕ → Handed
+roomAnswer room count = cond (ltb room count) (Refused (Table count)) (Count count)
 
 abbrev pub countIn : Handed → ℕ
 countIn (Count n) = n

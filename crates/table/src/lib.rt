@@ -4,9 +4,10 @@ ghost use mathlib.Core.List.{_++_};
 ghost use Prim.Native.Nat.{_<_};
 ghost use lib.ListN.{drop};
 ghost use Rattle.area.specs.Area.{orderIn};
-ghost use Rattle.table.specs.Inner.{Pointed, peakIn, recordsIn, Fillable, countIn, cellsRead};
+ghost use Rattle.table.specs.Inner.{Pointed, peakIn, recordsIn, Fillable, roomAnswer, countIn, cellsRead};
 use record::Handed;
 use record::Peak;
+use record::Refusal;
 
 // The record of the peak at the cell `c`.
 pub fn peak_at(work: &[u8], n: usize, c: usize) -> Peak
@@ -46,6 +47,19 @@ pub fn fill(table: &mut [Peak], work: &[u8], n: usize, count: usize)
         table[i] = record_at(work, n, i);
         i += 1;
     }
+}
+
+// The answer of a call whose work is done, for so many records and the room of the table.
+pub fn room_answer(count: usize, room: usize) -> Handed
+    requires { ⌜ count < 4294967296 ⌝ }
+    ensures { λ r. ⌜ r ≡ roomAnswer room count ⌝ }
+{
+    if room < count {
+        return Handed::Refused(Refusal::Table {
+            needed: words::narrow(count),
+        });
+    }
+    Handed::Count(words::narrow(count))
 }
 
 // How many records an answer has: none where it is a refusal.

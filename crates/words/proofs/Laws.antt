@@ -1,20 +1,62 @@
 -- Laws of numbers in bytes.
---     word-below     a number of bytes fits in 32 bits
---     store-word     four bytes stored make the number, and leave every other number as it was
+--     Bytes s          s is a list of bytes, as every lent slice of them is
+--     word-below       a number of bytes fits in 32 bits
+--     word-bytes       lists that have one number at a place have the same bytes there
+--     bytes-beyond     so numbers that stayed from a place on are bytes that stayed
+--     store-word       four bytes stored make the number, and leave every other number as it was
 -- Assumes nothing.
-use mathlib.Core.Path.{_≡_}
+use mathlib.Core.Path.{_≡_, sym, subst}
 use mathlib.Core.List.{List}
 use Prim.Native.Nat.{ℕ, _+_, _*_, _/_, _%_, _≤_, _<_}
+use native.Mathlib.Nat.{add-zero}
 use native.Mathlib.Omega.{arith}
+use native.Mathlib.Decide.{ℕ-discrete}
 use lib.ListN.{length, getD, set, length-set}
 use lib.Seq.{getD-set-same, getD-set-other}
 use mir.Syntax.{w8}
 use mir.Val.{Fits}
 use Rattle.words.specs.Words.{wordAt, Stored}
 
-pub word-below : (s : List ℕ) → ((k : ℕ) → Fits w8 (getD s k 0)) → (i : ℕ) → wordAt s i < 4294967296
+abbrev pub Bytes : List ℕ → Type 0
+Bytes s = (k : ℕ) → Fits w8 (getD s k 0)
+
+pub word-below : (s : List ℕ) → Bytes s → (i : ℕ) → wordAt s i < 4294967296
 unfolding wordAt
 word-below s b i = omega (arith, b (4 * i), b (4 * i + 1), b (4 * i + 2), b (4 * i + 3))
+
+-- ---- bytes from numbers
+
+module _ (s t : List ℕ) (b : Bytes s) (d : Bytes t) where
+  pub word-bytes : (j : ℕ) → wordAt t j ≡ wordAt s j → (r : ℕ) → r < 4 → getD t (4 * j + r) 0 ≡ getD s (4 * j + r) 0
+  unfolding wordAt
+  word-bytes j e r l =
+      let b0 = b (4 * j) in
+      let b1 = b (4 * j + 1) in
+      let b2 = b (4 * j + 2) in
+      let b3 = b (4 * j + 3) in
+      let d0 = d (4 * j) in
+      let d1 = d (4 * j + 1) in
+      let d2 = d (4 * j + 2) in
+      let d3 = d (4 * j + 3) in
+      elim (ℕ-discrete r 0) [
+        | yes q ↦ rw (q, add-zero (4 * j)) (omega arith)
+        | no n0 ↦ elim (ℕ-discrete r 1) [
+          | yes q ↦ rw q (omega arith)
+          | no n1 ↦ elim (ℕ-discrete r 2) [
+            | yes q ↦ rw q (omega arith)
+            | no n2 ↦ let q : r ≡ 3 = omega arith in rw q (omega arith)
+          ]
+        ]
+      ]
+
+  pub bytes-beyond : (n : ℕ) → ((j : ℕ) → n ≤ j → wordAt t j ≡ wordAt s j)
+      → (i : ℕ) → 4 * n ≤ i → getD t i 0 ≡ getD s i 0
+  bytes-beyond n same i l =
+      let q : i ≡ 4 * (i / 4) + i % 4 = omega arith in
+      let h = word-bytes (i / 4) (same (i / 4) (omega arith)) (i % 4) (omega arith) in
+      subst (λ (m : ℕ). getD t m 0 ≡ getD s m 0) (sym q) h
+
+-- ---- a number stored
 
 -- s with the bytes a, b, c, d at `at` and behind it
 abbrev fourAt : List ℕ → ℕ → ℕ → ℕ → ℕ → ℕ → List ℕ

@@ -1,7 +1,7 @@
 -- `list` meets its contract: a walk of its MIR, by hand, after `proofs/first` of the kit's example `reader` (an enum
 -- that is returned). Each call is one step: `calls-flat` lends the work area to `flat` and has it back at the list that
 -- `flat` left; `calls-fill` gives the row to `fill` for good, so that what `fill` says of its last list is said of the
--- call's. What `flat` leaves allows the filling, and makes the promise (`flat-fillable`, `flat-lists`). The answer is
+-- call's. What `flat` leaves allows the filling, and makes the promise (`flat-fillable`, `flat-hands`). The answer is
 -- kept in a local, and is returned as it came. Assumes nothing.
 mod CallsFlat
 use mathlib.Core.Path.{refl}
@@ -56,7 +56,7 @@ use Rattle.table.proofs.NumberCalls.{CellsOf, CountOf, cells-known, count-known
 use Rattle.table.proofs.cells_of.Symbol.{name as #table·cells-of}
 use Rattle.table.proofs.count_of.Symbol.{name as #table·count-of}
 use Rattle.list.proofs.list.Proof.CallsFlat.{FlatCall, flat-known, Left, calls-flat}
-use Rattle.list.proofs.Answers.{flat-fillable, flat-lists}
+use Rattle.table.proofs.Handed.{flat-fillable, flat-hands}
 use Rattle.list.proofs.flat.Symbol.{name as #list·flat}
 use Rattle.list.proofs.list.Key.{name as #list·list}
 use Rattle.list.proofs.list as list
@@ -135,7 +135,7 @@ module _ {M : Type 1} (𝓤 : URA M) (H : Heap 𝓤) (A : Atoms 𝓤) (W : Given
       ∷ ‵ (finally R (t .name) ts) ∷ []) ∵
       suffices ! _ (ends-at 𝓤 H A list.ended stayed (list.clauses 𝓤 H A mem run) W bound u r
       (tt, (tt, (tt, (zs, (ts, tt))))) (tt, (tt, (tt, (left .0, (filled .0, tt)))))) $
-      says ! (flat-lists (t .now) r (left .1) (filled .1)) $
+      says ! (flat-hands (t .now) r (λ m e. refl) (left .1) (filled .1)) $
       nothing ! $ move ! (3 ∷ 0 ∷ []) $ join ! $ move ! (2 ∷ 0 ∷ []) $ join ! $ move ! (1 ∷ 0 ∷ []) $ join ! $ frame ! $
       -- [heights; work; the row's last list]
       nothing ! $ move ! (3 ∷ 0 ∷ []) $ fjoin ! $ move ! (2 ∷ 0 ∷ []) $ fjoin ! $
@@ -205,7 +205,7 @@ module _ {M : Type 1} (𝓤 : URA M) (H : Heap 𝓤) (A : Atoms 𝓤) (W : Given
         (no-more !)))) (from ! (stop !)) (init ! (loc 6 17) refl (tt, (tt, (record { fits = w-room .0 }, tt)))) $
         move ! (5 ∷ 4 ∷ 2 ∷ 3 ∷ []) $
         calls-fill 𝓤 H A W mem run κ₂ q₂ t κ₁ q₁ γ b o (length ys) zs (n r) (countIn r) ! fm known-fill
-        (flat-fillable (t .now) r (left .1)) n-fits k-fits (left .0) w-room
+        (flat-fillable (t .now) r (λ m e. refl) (left .1)) n-fits k-fits (left .0) w-room
         (λ μ ε. and-then ! (copied ! (loc 4 15) refl) (and-then ! (copied ! (loc 4 17) refl)
         (and-then ! (copied ! (loc 4 8) refl) (and-then ! (copied ! (loc 4 9) refl) (no-more !)))))
         (λ v v-typed ts filled.

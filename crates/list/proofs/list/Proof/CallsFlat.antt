@@ -44,7 +44,7 @@ use denote.Triple.Walked.{says}
 use Rattle.record.specs.declared.Handed.{Handed}
 use Rattle.record.proofs.Handed as S
 use Rattle.table.proofs.LentAgain.{LentMut, lends-again, comes-back}
-use Rattle.list.specs.Listing.{Flat}
+use Rattle.list.specs.Inner.{ListsFlat}
 use Rattle.list.proofs.flat as flat
 use Rattle.list.proofs.flat.Symbol as flat-def
 use Rattle.list.proofs.flat.Symbol.{name as #list·flat}
@@ -63,7 +63,7 @@ flat-known 𝓤 H 𝓜 𝓖 𝓡 env e =
 
 abbrev pub Left : ℕ → List ℤ → ℕ → List ℕ → ℕ → Handed → List ℕ → Type 0
 Left rows heights threshold ys room r zs =
-    (length zs ≡ length ys) × Flat rows heights threshold ys room zs r
+    (length zs ≡ length ys) × ListsFlat rows heights threshold ys room zs r
 
 module _ {M : Type 1} (𝓤 : URA M) (H : Heap 𝓤) (A : Atoms 𝓤) (W : Given 𝓤 H A) (mem : Memory → SProp 𝓤)
     (run : Routine → Fun 𝓤) (κ : Lft) (q : Share) (h : RefT (List ℤ)) (κ′ : Lft) (q′ : Share) (γ : GName) (b o : ℕ)
@@ -130,9 +130,9 @@ module _ {M : Type 1} (𝓤 : URA M) (H : Heap 𝓤) (A : Atoms 𝓤) (W : Given
   flat-said ν δ r =
       qed W (some (λ (ws : Lasts flat.ended (flat-lfts ν) (flat-args δ)).
       ‵ (lasts flat.ended (flat-lfts ν) (flat-args δ) ws)
-      ⊛ raw (fact 𝓤 (Flat rows (h .now) threshold ys room (ws .1 .1 .1 .0) r))) ∷ []) ∵
+      ⊛ raw (fact 𝓤 (ListsFlat rows (h .now) threshold ys room (ws .1 .1 .1 .0) r))) ∷ []) ∵
       pick ! (λ ws. split ! $ move ! (1 ∷ []) $
-      heard ! (Flat rows (h .now) threshold ys room (ws .1 .1 .1 .0) r) (λ c.
+      heard ! (ListsFlat rows (h .now) threshold ys room (ws .1 .1 .1 .0) r) (λ c.
       fsplit ! $ drop ! $ fsplit ! $ drop ! $ fsplit ! $ drop ! $ fsplit ! $ fsplit ! $ move ! (1 ∷ []) $ feqL ! (λ l.
       show ! (Said δ r) (ws .1 .1 .1 .0) $ says ! (l, c) $ keep ! (0 ∷ []) $ done !)))
 

@@ -1,0 +1,65 @@
+// The run record: what is read from it, and what becomes of it. No other file makes one.
+ghost use mathlib.Core.Path.{_≡_};
+ghost use Prim.Native.Nat.{_+_, _<_};
+ghost use Rattle.run.specs.Promises.{heldOf, startedRun, withColumn, withEnd, columnRun, endRun};
+use crate::Run;
+use record::Handed;
+
+// The record of a run of zero columns.
+pub fn start_record(rows: u32, threshold: u32) -> Run
+    ensures { λ r. ⌜ r ≡ startedRun rows threshold ⌝ }
+{
+    Run {
+        rows: rows,
+        columns: 0,
+        threshold: threshold,
+        ended: false,
+    }
+}
+
+// The cells of a run that its grid holds. Two numbers of 32 bits have a product of 64.
+pub fn held_cells(run: Run) -> usize
+    ensures { λ r. ⌜ (r ≡ heldOf run) × (r < 18446744065119617026) ⌝ }
+{
+    words::index(run.columns) * words::index(run.rows)
+}
+
+// The record with one column more.
+fn with_column(run: Run) -> Run
+    requires { ⌜ run .columns + 1 < 4294967296 ⌝ }
+    ensures { λ r. ⌜ r ≡ withColumn run ⌝ }
+{
+    let mut next = run;
+    next.columns = run.columns + 1;
+    next
+}
+
+// The record of a run that has ended.
+fn with_end(run: Run) -> Run
+    ensures { λ r. ⌜ r ≡ withEnd run ⌝ }
+{
+    let mut next = run;
+    next.ended = true;
+    next
+}
+
+// The record after Column's answer.
+pub fn after_column(run: Run, handed: Handed) -> Run
+    requires { ⌜ run .columns + 1 < 4294967296 ⌝ }
+    ensures { λ r. ⌜ r ≡ columnRun handed run ⌝ }
+{
+    match handed {
+        Handed::Count(_) => with_column(run),
+        Handed::Refused(_) => run,
+    }
+}
+
+// The record after End's answer.
+pub fn after_end(run: Run, handed: Handed) -> Run
+    ensures { λ r. ⌜ r ≡ endRun handed run ⌝ }
+{
+    match handed {
+        Handed::Count(_) => with_end(run),
+        Handed::Refused(_) => run,
+    }
+}
