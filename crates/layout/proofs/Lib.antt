@@ -1,7 +1,6 @@
 pub mod Complement
 pub mod Rows
 pub mod Over
-pub mod Sound
 pub mod WriteAnswer
 pub mod ReadAnswer
 pub mod Files

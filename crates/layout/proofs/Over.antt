@@ -20,9 +20,9 @@ use Rattle.relief.specs.Heights.{BLANK}
 use Rattle.record.specs.declared.Peak.{Peak}
 use Rattle.record.specs.Records.{withoutKey}
 use Rattle.words.specs.Words.{wordAt, Stored}
-use Rattle.layout.specs.Layout.{wordOf, bytesOf, recordOf, recordsOf, totalOf}
-use Rattle.layout.specs.Sound.{recordAt}
-use Rattle.layout.specs.Steps.{over, laid}
+use Rattle.layout.specs.Layout.{wordOf, bytesOf, fieldsOf, allFieldsOf, totalOf}
+use Rattle.sound.specs.Sound.{ithOf}
+use Rattle.layout.specs.Inner.{over, laid}
 use Rattle.layout.proofs.Rows.{four-length, four-append, record-four, bytes-length, bytes-append}
 
 -- ---- laid over
@@ -152,30 +152,30 @@ module _ (s : List ℕ) (cells : ℕ) (ps : List Peak) where
   laid-start = sym (over-nil s (24 + 4 * cells))
 
   module _ (i : ℕ) (l : i ≤ length ps) (fits : 24 + 4 * cells + 16 * i ≤ length s) where
-    laid-bytes : length (bytesOf (recordsOf (take i ps))) ≡ 16 * i
+    laid-bytes : length (bytesOf (allFieldsOf (take i ps))) ≡ 16 * i
     laid-bytes =
         omega (
           arith,
-          bytes-length (recordsOf (take i ps)),
-          four-length recordOf record-four (take i ps),
+          bytes-length (allFieldsOf (take i ps)),
+          four-length fieldsOf record-four (take i ps),
           length-take-le i ps l,
         )
 
     pub laid-length : length (laid s cells ps i) ≡ length s
     unfolding laid
-    laid-length = over-length s (24 + 4 * cells) (bytesOf (recordsOf (take i ps))) (omega (arith, laid-bytes))
+    laid-length = over-length s (24 + 4 * cells) (bytesOf (allFieldsOf (take i ps))) (omega (arith, laid-bytes))
 
     pub laid-step :
         i < length ps →
-        over (laid s cells ps i) (totalOf cells i) (bytesOf (recordOf (recordAt ps i))) ≡ laid s cells ps (i + 1)
-    unfolding laid flatMap recordAt
+        over (laid s cells ps i) (totalOf cells i) (bytesOf (fieldsOf (ithOf ps i))) ≡ laid s cells ps (i + 1)
+    unfolding laid flatMap ithOf
     laid-step h =
-        let old = recordsOf (take i ps) in
-        let p = recordAt ps i in
-        let one : recordsOf (p ∷ []) ≡ recordOf p = append-nil (recordOf p) in
-        let more : recordsOf (take (i + 1) ps) ≡ old ++ recordOf p =
+        let old = allFieldsOf (take i ps) in
+        let p = ithOf ps i in
+        let one : allFieldsOf (p ∷ []) ≡ fieldsOf p = append-nil (fieldsOf p) in
+        let more : allFieldsOf (take (i + 1) ps) ≡ old ++ fieldsOf p =
         rw (add-one i, take-suc ps i (withoutKey 0 BLANK) h)
-        (four-append recordOf record-four (take i ps) (p ∷ []) ∙ ap (λ (k : List ℕ). old ++ k) one) in
-        over-over s (24 + 4 * cells) (bytesOf old) (omega (arith, laid-bytes)) (totalOf cells i) (bytesOf (recordOf p))
+        (four-append fieldsOf record-four (take i ps) (p ∷ []) ∙ ap (λ (k : List ℕ). old ++ k) one) in
+        over-over s (24 + 4 * cells) (bytesOf old) (omega (arith, laid-bytes)) (totalOf cells i) (bytesOf (fieldsOf p))
         (omega (arith, laid-bytes))
-        ∙ ap (over s (24 + 4 * cells)) (sym (bytes-append old (recordOf p)) ∙ ap bytesOf (sym more))
+        ∙ ap (over s (24 + 4 * cells)) (sym (bytes-append old (fieldsOf p)) ∙ ap bytesOf (sym more))

@@ -16,7 +16,7 @@ use lib.Seq.{sets, sets-eq, take-at, drop-append-add, drop-drop}
 use Rattle.record.specs.declared.Peak.{Peak}
 use Rattle.area.specs.Area.{orderIn}
 use Rattle.table.specs.Inner.{peakIn, recordsIn}
-use Rattle.layout.specs.Layout.{bitsOf, wordOf, bytesOf, recordOf, recordsOf}
+use Rattle.layout.specs.Layout.{bitsOf, wordOf, bytesOf, fieldsOf, allFieldsOf}
 use Rattle.layout.proofs.Bytes.{sets-word}
 
 -- ---- one record
@@ -29,8 +29,8 @@ pub record-put : (s : List ℕ) (i : ℕ) (p : Peak) {t u v w : List ℕ} {heigh
     → height ≡ bitsOf (p .height) → key ≡ bitsOf (p .key)
     → t ≡ sets s (4 * (4 * i)) (wordOf (p .cell)) → u ≡ sets t (4 * (4 * i + 1)) (wordOf height)
     → v ≡ sets u (4 * (4 * i + 2)) (wordOf key) → w ≡ sets v (4 * (4 * i + 3)) (wordOf (p .pass))
-    → w ≡ sets s (16 * i) (bytesOf (recordOf p))
-unfolding recordOf flatMap
+    → w ≡ sets s (16 * i) (bytesOf (fieldsOf p))
+unfolding fieldsOf flatMap
 record-put s i p {t} {u} {v} {w} eh ek e1 e2 e3 e4 =
     let at = 16 * i in
     let x1 = sets s at (wordOf (p .cell)) in
@@ -57,10 +57,10 @@ flat-append f (x ∷ a) b =
     ap (λ (l : List ℕ). f x ++ l) (flat-append f a b) ∙ sym (append-assoc (f x) (flatMap f a) (flatMap f b))
 
 abbrev pub recordBytes : List ℕ → ℕ → ℕ → List ℕ
-recordBytes s n i = bytesOf (recordsOf (recordsIn s n i))
+recordBytes s n i = bytesOf (allFieldsOf (recordsIn s n i))
 
-bytes-length : (p : Peak) → length (bytesOf (recordOf p)) ≡ 16
-unfolding recordOf wordOf flatMap
+bytes-length : (p : Peak) → length (bytesOf (fieldsOf p)) ≡ 16
+unfolding fieldsOf wordOf flatMap
 bytes-length p = refl
 
 pub record Grows (row : ℕ → List Peak) (peak : ℕ → Peak) : Type 0 where
@@ -73,21 +73,21 @@ records-grow s n = record { start = refl; next = λ i. refl }
 
 module _ {row : ℕ → List Peak} {peak : ℕ → Peak} (g : Grows row peak) where
   row-suc : (i : ℕ)
-      → bytesOf (recordsOf (row (suc i))) ≡ bytesOf (recordsOf (row i)) ++ bytesOf (recordOf (peak i))
+      → bytesOf (allFieldsOf (row (suc i))) ≡ bytesOf (allFieldsOf (row i)) ++ bytesOf (fieldsOf (peak i))
   unfolding flatMap
   row-suc i =
-      ap (λ (l : List Peak). bytesOf (recordsOf l)) (g .next i)
+      ap (λ (l : List Peak). bytesOf (allFieldsOf l)) (g .next i)
       ∙ ap bytesOf
-      (flat-append recordOf (row i) (peak i ∷ [])
-      ∙ ap (λ (l : List ℕ). recordsOf (row i) ++ l) (append-nil (recordOf (peak i))))
-      ∙ flat-append wordOf (recordsOf (row i)) (recordOf (peak i))
+      (flat-append fieldsOf (row i) (peak i ∷ [])
+      ∙ ap (λ (l : List ℕ). allFieldsOf (row i) ++ l) (append-nil (fieldsOf (peak i))))
+      ∙ flat-append wordOf (allFieldsOf (row i)) (fieldsOf (peak i))
 
-  row-length : (i : ℕ) → length (bytesOf (recordsOf (row i))) ≡ 16 * i
+  row-length : (i : ℕ) → length (bytesOf (allFieldsOf (row i))) ≡ 16 * i
   unfolding flatMap
-  row-length zero = ap (λ (l : List Peak). length (bytesOf (recordsOf l))) (g .start)
+  row-length zero = ap (λ (l : List Peak). length (bytesOf (allFieldsOf l))) (g .start)
   row-length (suc i) =
       let e = row-length i in
-      let l = length-append (bytesOf (recordsOf (row i))) (bytesOf (recordOf (peak i))) in
+      let l = length-append (bytesOf (allFieldsOf (row i))) (bytesOf (fieldsOf (peak i))) in
       let q = bytes-length (peak i) in
       ap length (row-suc i) ∙ omega arith
 
@@ -107,14 +107,14 @@ sets-seam x table b k e room =
 
 pub record Puts (table : List ℕ) (row : ℕ → List Peak) (count : ℕ) (t : List ℕ) (i : ℕ) : Type 0 where
   pub below : i ≤ count
-  pub bytes : t ≡ bytesOf (recordsOf (row i)) ++ drop (16 * i) table
+  pub bytes : t ≡ bytesOf (allFieldsOf (row i)) ++ drop (16 * i) table
 
 module _ {row : ℕ → List Peak} {peak : ℕ → Peak} (g : Grows row peak) {table : List ℕ} {count : ℕ} where
   pub puts-start : Puts table row count table 0
   unfolding flatMap
   puts-start = record {
     below = zero-le;
-    bytes = ap (λ (l : List Peak). bytesOf (recordsOf l) ++ table) (sym (g .start));
+    bytes = ap (λ (l : List Peak). bytesOf (allFieldsOf l) ++ table) (sym (g .start));
   }
 
   module _ {t : List ℕ} {i : ℕ} (room : 16 * count ≤ length table) (h : Puts table row count t i) where
@@ -122,16 +122,16 @@ module _ {row : ℕ → List Peak} {peak : ℕ → Peak} (g : Grows row peak) {t
     puts-length =
         let b = h .below in
         let l = row-length g i in
-        let a = length-append (bytesOf (recordsOf (row i))) (drop (16 * i) table) in
+        let a = length-append (bytesOf (allFieldsOf (row i))) (drop (16 * i) table) in
         let d = length-drop (16 * i) table in
         ap length (h .bytes) ∙ omega arith
 
-    pub puts-step : {u : List ℕ} {p : Peak} → i < count → p ≡ peak i → u ≡ sets t (16 * i) (bytesOf (recordOf p))
+    pub puts-step : {u : List ℕ} {p : Peak} → i < count → p ≡ peak i → u ≡ sets t (16 * i) (bytesOf (fieldsOf p))
         → Puts table row count u (i + 1)
     puts-step {u} {p} here e q =
         let f = bytes-length p in
-        let x = bytesOf (recordsOf (row i)) in
-        let b = bytesOf (recordOf p) in
+        let x = bytesOf (allFieldsOf (row i)) in
+        let b = bytesOf (fieldsOf p) in
         let a : 16 * i + length b ≡ 16 * suc i = omega arith in
         subst (Puts table row count u) (sym (add-one i)) (record {
           below = here;
@@ -139,12 +139,12 @@ module _ {row : ℕ → List Peak} {peak : ℕ → Peak} (g : Grows row peak) {t
               ∙ sets-seam x table b (16 * i) (row-length g i) (omega arith)
               ∙ ap (λ (k : ℕ). x ++ b ++ drop k table) a
               ∙ ap (λ (l : List ℕ). l ++ drop (16 * suc i) table)
-              (ap (λ (y : Peak). x ++ bytesOf (recordOf y)) e ∙ sym (row-suc g i));
+              (ap (λ (y : Peak). x ++ bytesOf (fieldsOf y)) e ∙ sym (row-suc g i));
         })
 
 pub puts-done : {row : ℕ → List Peak} {table : List ℕ} {count : ℕ} {t : List ℕ} {i : ℕ} → Puts table row count t i
-    → count ≤ i → t ≡ bytesOf (recordsOf (row count)) ++ drop (16 * count) table
+    → count ≤ i → t ≡ bytesOf (allFieldsOf (row count)) ++ drop (16 * count) table
 puts-done {row} {table} {count} {i} h l =
     let b = h .below in
     let e : i ≡ count = omega arith in
-    h .bytes ∙ ap (λ (k : ℕ). bytesOf (recordsOf (row k)) ++ drop (16 * k) table) e
+    h .bytes ∙ ap (λ (k : ℕ). bytesOf (allFieldsOf (row k)) ++ drop (16 * k) table) e

@@ -19,7 +19,7 @@ pub fn signed(bits: u32) -> i32
 }
 
 // The cells of a grid. The product of two 32-bit numbers is made in 64 bits.
-pub fn cells_of(rows: u32, columns: u32) -> usize
+pub fn grid_cells(rows: u32, columns: u32) -> usize
     ensures { λ r. ⌜ r ≡ rows * columns ⌝ }
 {
     words::index(rows) * words::index(columns)

@@ -50,5 +50,9 @@ pub fn check_end(run: Run, grid: usize, work: usize) -> Checked
     let ended = run.ended;
     let checked = check_run(run, grid);
     let checked = record::then_test(checked, ended, Refusal::Ended);
-    record::then_test(checked, record::short_work(work, held_cells(run)), Refusal::Work)
+    record::then_test(
+        checked,
+        record::short_work(work, held_cells(run)),
+        Refusal::Work,
+    )
 }

@@ -7,13 +7,13 @@ use denote.Ref.{now}
 use mir.Syntax.{w32}
 use mir.ValLaws.{toZ-ofZ}
 use borrow.Author.Needs.{needs}
-use Rattle.layout.specs.Layout.{bitsOf, recordOf, totalOf}
+use Rattle.layout.specs.Layout.{bitsOf, fieldsOf, totalOf}
 use Rattle.layout.proofs.Over.{over-nil, over-next}
 use Rattle.layout.proofs.writer.put_record.Statement.{statement}
 use Rattle.layout.proofs.writer.put_record.Tie as tie
 
 returns : tie.Need-returns
-unfolding recordOf
+unfolding fieldsOf
 returns c =
     let c4 = c .before .before .before .before in
     let c8 = c4 .before .before .before .before in

@@ -15,9 +15,9 @@ use Rattle.relief.specs.Heights.{BLANK}
 use Rattle.record.specs.declared.Peak.{Peak}
 use Rattle.record.specs.Records.{withoutKey}
 use Rattle.table.proofs.Upto.{Upto}
-use Rattle.layout.specs.Layout.{bytesOf, recordOf, totalOf}
-use Rattle.layout.specs.Sound.{recordAt}
-use Rattle.layout.specs.Steps.{over, Puttable, laid}
+use Rattle.layout.specs.Layout.{bytesOf, fieldsOf, totalOf}
+use Rattle.sound.specs.Sound.{ithOf}
+use Rattle.layout.specs.Inner.{over, Puttable, laid}
 use Rattle.layout.proofs.Over.{laid-start, laid-length, laid-step}
 
 abbrev pub none : Peak
@@ -42,7 +42,7 @@ module _ {ys : List ℕ} {cells : ℕ} {ps : List Peak} {count : ℕ} (can : Put
     pub enough : totalOf cells (i .0 + 1) ≤ length ys
     enough = omega (arith, can .long (omega arith))
 
-    pub next-is : over (laid ys cells ps (i .0)) (totalOf cells (i .0)) (bytesOf (recordOf (getD ps (i .0) none)))
+    pub next-is : over (laid ys cells ps (i .0)) (totalOf cells (i .0)) (bytesOf (fieldsOf (getD ps (i .0) none)))
         ≡ laid ys cells ps (i .0 + 1)
-    unfolding recordAt
+    unfolding ithOf
     next-is = laid-step ys cells ps (i .0) (omega (arith, within)) (omega (arith, enough)) within

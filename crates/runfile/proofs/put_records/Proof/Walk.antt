@@ -52,7 +52,7 @@ use Rattle.record.proofs.Peak.Laws as T′
 use Rattle.table.proofs.Locals.{localAt, copied, release}
 use Rattle.table.proofs.Upto.{Upto, Nearer, Nearer-wf}
 use Rattle.layout.specs.Layout.{totalOf}
-use Rattle.layout.specs.Steps.{Puttable, laid}
+use Rattle.layout.specs.Inner.{Puttable, laid}
 use Rattle.layout.proofs.Over.{laid-start}
 use Rattle.layout.proofs.writer.put_record.Symbol.{name as #layout·put-record}
 use Rattle.runfile.proofs.put_records as put

@@ -1,10 +1,10 @@
--- `layout::cells_of` meets its contract: the product of two numbers below 2^32 is below 2^64. Assumes nothing.
+-- `layout::grid_cells` meets its contract: the product of two numbers below 2^32 is below 2^64. Assumes nothing.
 use Prim.Native.Nat.{ℕ, _*_, _≤_}
 use native.Mathlib.Nat.{mul-le-mul}
 use native.Mathlib.Omega.{arith}
 use borrow.Author.Needs.{needs}
-use Rattle.layout.proofs.numbers.cells_of.Statement.{statement}
-use Rattle.layout.proofs.numbers.cells_of.Tie as tie
+use Rattle.layout.proofs.numbers.grid_cells.Statement.{statement}
+use Rattle.layout.proofs.numbers.grid_cells.Tie as tie
 
 product : (a b : ℕ) → a ≤ 4294967295 → b ≤ 4294967295 → a * b ≤ 4294967295 * 4294967295
 product a b h l = mul-le-mul h l
@@ -19,5 +19,5 @@ mul-result c =
 returns : tie.Need-returns
 returns c = rw (c .before .index .ensures, c .index2 .ensures)
 
-pub cells-of-spec : {M : Type 1} → statement M
-cells-of-spec = tie.close (tie.spec (λ c κs. search needs) (λ c κs. search needs) mul-result returns)
+pub grid-cells-spec : {M : Type 1} → statement M
+grid-cells-spec = tie.close (tie.spec (λ c κs. search needs) (λ c κs. search needs) mul-result returns)

@@ -1,14 +1,14 @@
--- `layout::record_in` meets its contract: its four numbers are those of the record. Assumes nothing.
+-- `layout::record_from` meets its contract: its four numbers are those of the record. Assumes nothing.
 use mathlib.Core.Path.{_∙_}
 use mir.Syntax.{w32}
 use mir.ValLaws.{toZ-ofZ}
 use borrow.Author.Needs.{needs}
-use Rattle.layout.specs.Layout.{recordIn}
-use Rattle.layout.proofs.records.record_in.Statement.{statement}
-use Rattle.layout.proofs.records.record_in.Tie as tie
+use Rattle.layout.specs.Layout.{recordFrom}
+use Rattle.layout.proofs.records.record_from.Statement.{statement}
+use Rattle.layout.proofs.records.record_from.Tie as tie
 
 returns : tie.Need-returns
-unfolding recordIn
+unfolding recordFrom
 returns c =
     let c4 = c .before .before .before .before in
     let height = c4 .signed in
@@ -25,8 +25,8 @@ returns c =
       c .before .get4 .ensures,
     )
 
-pub record-in-spec : {M : Type 1} → statement M
-record-in-spec =
+pub record-from-spec : {M : Type 1} → statement M
+record-from-spec =
     tie.close
     (tie.spec
     (λ c. search needs)
