@@ -1,6 +1,6 @@
 -- Laws of whole files: the numbers of a written file are where a reader looks for them, and those of a file read are
 -- where a writer puts them. With `Rows` the only file that unfolds `headerOf`, `fieldsOf`, `numbersOf`, `fileOf` and
--- `recordFrom`, but for the proofs of the functions that put and take them.
+-- `peakFrom`, but for the proofs of the functions that put and take them.
 --     numbers-length, numbers-header, numbers-height, numbers-record    the numbers of a file
 --     file-length, file-word           its length, and a number of its bytes
 --     file-rows .. file-total          its header as a reader finds it
@@ -25,12 +25,12 @@ use Rattle.words.specs.Words.{wordAt}
 use Rattle.words.proofs.Laws.{word-below}
 use Rattle.layout.specs.Layout.{bitsOf, signedOf, wordOf, totalOf, headerOf, fieldsOf, allFieldsOf}
 use Rattle.layout.specs.Layout.{numbersOf, fileOf, rowsIn, columnsIn, peaksIn, cellsIn, heightsIn}
-use Rattle.layout.specs.Layout.{recordFrom, recordsFrom}
+use Rattle.layout.specs.Layout.{peakFrom, recordFrom, recordsFrom}
 use Rattle.sound.specs.Sound.{Keyless, Keyed, ithOf, GridOf, SoundRow}
 use Rattle.sound.proofs.Cells.{at-any}
 use Rattle.layout.proofs.Complement.{signed-bits, bits-signed}
 use Rattle.layout.proofs.Rows.{four-length, four-at, record-four, bytes-length, bytes-at, bytes-word}
-use Rattle.layout.proofs.Rows.{heights-length, heights-at, records-length, records-at}
+use Rattle.layout.proofs.Rows.{heights-length, heights-at, peaks-length, peaks-at}
 use Rattle.layout.proofs.Over.{byte-of-word}
 use Rattle.layout.proofs.ReadAnswer.{Readable}
 
@@ -160,7 +160,7 @@ module _ {rows : ℕ} {hs : List ℤ} (ps : List Peak) (grid : GridOf rows hs) (
       ∙ ap (λ (n : ℕ). getD (numbersOf rows hs ps) n 0) place ∙ numbers-record rows hs ps i r l k
 
   back-record : (i : ℕ) → i < length ps → recordFrom file (length hs) i ≡ ithOf ps i
-  unfolding recordFrom fieldsOf
+  unfolding peakFrom fieldsOf
   back-record i l =
       let place : 6 + length hs + 4 * i + 0 ≡ 6 + length hs + 4 * i = omega arith in
       let cell = record-word i 0 l (omega arith) in
@@ -176,10 +176,10 @@ module _ {rows : ℕ} {hs : List ℤ} (ps : List Peak) (grid : GridOf rows hs) (
   pub back-records : recordsFrom file (length hs) (length ps) ≡ ps
   unfolding ithOf
   back-records =
-      ext-getD _ (recordsFrom file (length hs) (length ps)) ps (records-length file (length hs) (length ps))
+      ext-getD _ (recordsFrom file (length hs) (length ps)) ps (peaks-length file (6 + length hs) (length ps))
       (λ i l.
-      let h : i < length ps = omega (arith, records-length file (length hs) (length ps)) in
-      records-at file (length hs) (length ps) i h ∙ back-record i h)
+      let h : i < length ps = omega (arith, peaks-length file (6 + length hs) (length ps)) in
+      peaks-at file (6 + length hs) (length ps) i h ∙ back-record i h)
 
 -- ---- what is read is the file of what it holds
 
@@ -195,7 +195,7 @@ module _ (f : List ℕ) (bytes : (k : ℕ) → getD f k 0 < 256) {heights table 
   cells-are = heights-length f (cellsIn f)
 
   peaks-are : length ps ≡ peaksIn f
-  peaks-are = records-length f (cellsIn f) (peaksIn f)
+  peaks-are = peaks-length f (6 + cellsIn f) (peaksIn f)
 
   below : (i : ℕ) → wordAt f i < 4294967296
   below i = word-below f (λ k. record { fits = bytes k }) i
@@ -215,7 +215,7 @@ module _ (f : List ℕ) (bytes : (k : ℕ) → getD f k 0 < 256) {heights table 
 
   record-same :
       (i r : ℕ) → r < 4 → getD (fieldsOf (recordFrom f (cellsIn f) i)) r 0 ≡ wordAt f (6 + cellsIn f + 4 * i + r)
-  unfolding fieldsOf recordFrom
+  unfolding fieldsOf peakFrom
   record-same i zero l = ap (wordAt f) (omega arith)
   record-same i (suc zero) l = bits-signed (wordAt f (6 + cellsIn f + 4 * i + 1)) (below (6 + cellsIn f + 4 * i + 1))
   record-same i (suc (suc zero)) l =
@@ -242,7 +242,7 @@ module _ (f : List ℕ) (bytes : (k : ℕ) → getD f k 0 < 256) {heights table 
           let back : 6 + cellsIn f + 4 * i + r ≡ j = omega arith in
           let e = numbers-record (rowsIn f) hs ps i r (omega (arith, peaks-are)) (omega arith) in
           (rw place at e)
-          ∙ ap (λ (p : Peak). getD (fieldsOf p) r 0) (records-at f (cellsIn f) (peaksIn f) i (omega arith))
+          ∙ ap (λ (p : Peak). getD (fieldsOf p) r 0) (peaks-at f (6 + cellsIn f) (peaksIn f) i (omega arith))
           ∙ record-same i r (omega arith) ∙ ap (wordAt f) back
     ]
   ]
@@ -260,7 +260,8 @@ module _ (f : List ℕ) (bytes : (k : ℕ) → getD f k 0 < 256) {heights table 
   pub read-file : fileOf (rowsIn f) hs ps ≡ f
   read-file =
       let len = file-length (rowsIn f) hs ps in
-      let total : length f ≡ 24 + 4 * cellsIn f + 16 * peaksIn f = omega (arith, can .whole .total, can .whole .counted .total) in
+      let total : length f ≡ 24 + 4 * cellsIn f + 16 * peaksIn f =
+      omega (arith, can .whole .total, can .whole .counted .total) in
       let same : length (fileOf (rowsIn f) hs ps) ≡ length f = omega (arith, cells-are, peaks-are) in
       ext-getD 0 (fileOf (rowsIn f) hs ps) f same
       (λ k l.

@@ -5,5 +5,4 @@ pub mod WriteAnswer
 pub mod ReadAnswer
 pub mod Files
 pub mod Room
-pub mod Bytes
-pub mod TableBytes
+pub mod Laid

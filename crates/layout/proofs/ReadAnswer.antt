@@ -96,7 +96,8 @@ module _ (f : List ℕ) where
       → b ≡ firstOf (fileGridTests f)
   unfolding readTests
   grid-made long e-bad e-cells ea eb =
-      let start : Makes ((ltb (length f) 24, FileLength) ∷ []) Good = record { answer = sym (first-good _ (long, tt)) } in
+      let start : Makes ((ltb (length f) 24, FileLength) ∷ []) Good =
+      record { answer = sym (first-good _ (long, tt)) } in
       then Cells (then Rows start ea e-bad) eb (ap (ltb 1048576) e-cells) .answer
 
   pub grid-known : firstOf (fileGridTests f) ≡ Good → (24 ≤ length f) × (cellsIn f ≤ 1048576)

@@ -16,7 +16,8 @@ use Rattle.layout.specs.Layout.{bitsOf, bytesOf, totalOf, headerOf, allF
 use Rattle.layout.specs.Promises.{roomAfter}
 use Rattle.layout.specs.Inner.{over, GridPut, Puttable, laid, putOf}
 use Rattle.layout.proofs.Files.{file-length}
-use Rattle.layout.proofs.Over.{over-front, over-over, laid-start}
+use Rattle.layout.proofs.Laid.{laid-start}
+use Rattle.layout.proofs.Over.{over-front, over-over}
 use Rattle.layout.proofs.Rows.{bytes-length, bytes-append}
 use Rattle.layout.proofs.WriteAnswer.{written-writable}
 

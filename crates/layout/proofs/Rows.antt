@@ -1,11 +1,11 @@
 -- Laws of rows: of bytes, of heights and of records, written and read. With `Files` the only file that unfolds
--- `fieldsOf`, `heightsIn` and `recordsFrom`.
+-- `fieldsOf`, `heightsIn` and `peaksFrom`.
 --     four-length, four-append, four-at        rows made of pieces of four
 --     bytes-length, bytes-append, bytes-at     the bytes of a row of numbers; bytes-word, a number of it
 --     record-four                              a record has four numbers
 --     heights-length, heights-at               the heights of a file
---     records-length, records-at               its records
---     heights-fill                             a row of heights that is filledFrom from the front
+--     peaks-length, peaks-at                   records
+--     heights-fill                             a row of heights that is filled from the front
 --     filled-start, filled-step, filled-length    a table that is
 -- Assumes nothing.
 use mathlib.Core.List.{List, [], _∷_, _++_, append-assoc, flatMap}
@@ -23,7 +23,8 @@ use mir.ValLaws.{toZ-ofZ}
 use Rattle.relief.specs.Heights.{BLANK}
 use Rattle.record.specs.declared.Peak.{Peak}
 use Rattle.words.specs.Words.{wordAt}
-use Rattle.layout.specs.Layout.{signedOf, wordOf, bytesOf, fieldsOf, heightsIn, recordFrom, recordsFrom}
+use Rattle.layout.specs.Layout.{signedOf, wordOf, bytesOf, fieldsOf, heightsIn, peakFrom, peaksFrom}
+use Rattle.layout.specs.Layout.{recordFrom, recordsFrom}
 use Rattle.sound.specs.Sound.{ithOf}
 use Rattle.layout.specs.Inner.{filledFrom}
 
@@ -112,26 +113,26 @@ heights-at f (suc n) i h =
           rw e (getD-at (heightsIn f n) (signedOf (wordAt f (6 + n))) [] BLANK n len)
     ]
 
-pub records-length : (f : List ℕ) (cells n : ℕ) → length (recordsFrom f cells n) ≡ n
-unfolding recordsFrom
-records-length f cells zero = refl
-records-length f cells (suc n) =
-    length-append (recordsFrom f cells n) (recordFrom f cells n ∷ []) ∙ omega (arith, records-length f cells n)
+pub peaks-length : (s : List ℕ) (at n : ℕ) → length (peaksFrom s at n) ≡ n
+unfolding peaksFrom
+peaks-length s at zero = refl
+peaks-length s at (suc n) =
+    length-append (peaksFrom s at n) (peakFrom s (at + 4 * n) ∷ []) ∙ omega (arith, peaks-length s at n)
 
-pub records-at : (f : List ℕ) (cells n i : ℕ) → i < n → ithOf (recordsFrom f cells n) i ≡ recordFrom f cells i
-unfolding recordsFrom ithOf
-records-at f cells zero i h = absurd (omega arith)
-records-at f cells (suc n) i h =
-    let len = records-length f cells n in
-    let ih : i < n → ithOf (recordsFrom f cells n) i ≡ recordFrom f cells i = records-at f cells n i in
+pub peaks-at : (s : List ℕ) (at n i : ℕ) → i < n → ithOf (peaksFrom s at n) i ≡ peakFrom s (at + 4 * i)
+unfolding peaksFrom ithOf
+peaks-at s at zero i h = absurd (omega arith)
+peaks-at s at (suc n) i h =
+    let len = peaks-length s at n in
+    let ih : i < n → ithOf (peaksFrom s at n) i ≡ peakFrom s (at + 4 * i) = peaks-at s at n i in
     elim (decLt i n) [
-      | yes l ↦ List·getD-append (recordsFrom f cells n) (recordFrom f cells n ∷ []) _ i (omega arith) ∙ ih l
+      | yes l ↦ List·getD-append (peaksFrom s at n) (peakFrom s (at + 4 * n) ∷ []) _ i (omega arith) ∙ ih l
       | no m ↦
           let e : i ≡ n = omega arith in
-          rw e (getD-at (recordsFrom f cells n) (recordFrom f cells n) [] _ n len)
+          rw e (getD-at (peaksFrom s at n) (peakFrom s (at + 4 * n)) [] _ n len)
     ]
 
--- ---- a lent row that is filledFrom from the front
+-- ---- a lent row that is filled from the front
 
 fill-step :
     {A : Type 0} (xs old : List A) (i : ℕ) (d v : A) → length xs ≡ i → i < length old →
@@ -149,17 +150,18 @@ heights-fill f old i h =
 
 module _ (old : List Peak) (f : List ℕ) (cells : ℕ) where
   pub filled-start : filledFrom old f cells 0 ≡ old
-  unfolding recordsFrom
+  unfolding peaksFrom
   filled-start = refl
 
   pub filled-step :
-      (i : ℕ) → i < length old → set (filledFrom old f cells i) i (recordFrom f cells i) ≡ filledFrom old f cells (i + 1)
-  unfolding recordsFrom
+      (i : ℕ) → i < length old →
+      set (filledFrom old f cells i) i (recordFrom f cells i) ≡ filledFrom old f cells (i + 1)
+  unfolding peaksFrom
   filled-step i h =
-      fill-step (recordsFrom f cells i) old i (recordFrom f cells i) (recordFrom f cells i) (records-length f cells i) h
-      ∙ rw (add-one i)
+      let p = recordFrom f cells i in
+      fill-step (recordsFrom f cells i) old i p p (peaks-length f (6 + cells) i) h ∙ rw (add-one i)
 
   pub filled-length : (i : ℕ) → i ≤ length old → length (filledFrom old f cells i) ≡ length old
   filled-length i h =
       length-append (recordsFrom f cells i) (drop i old)
-      ∙ omega (arith, records-length f cells i, length-drop i old)
+      ∙ omega (arith, peaks-length f (6 + cells) i, length-drop i old)

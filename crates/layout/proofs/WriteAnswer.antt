@@ -64,7 +64,8 @@ module _ (rows cells : ℕ) where
     abbrev tests : List (Bool × Refusal)
     tests = writeTests rows cells n u room
 
-    pub grid-refused : {r : Refusal} (told : Told) → firstOf (gridTests rows cells) ≡ Bad r → toldOf r ≡ toldBy tests told
+    pub grid-refused : {r : Refusal} (told : Told) → firstOf (gridTests rows cells) ≡ Bad r
+        → toldOf r ≡ toldBy tests told
     unfolding writeTests
     grid-refused told e = sym (told-by told (first-before (gridTests rows cells) (drop 3 tests) e))
 

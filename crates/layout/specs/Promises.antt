@@ -1,12 +1,12 @@
 -- The answers of writing and reading: sections "Run file" and "What comes back" of document 01.
---     writtenTold a, readTold a                   what an answer tells the caller
---     writeTests rows cells n unsound room        the order of refusals of `write`, for so many cells, records and bytes
---                                                 of room, at the index of the first unsound record
---     miscounted f cells n                        the header of f is not that of so many cells and records
---     readTests f heights table unsound           the order of refusals of `read`, for so many lent heights and table
---                                                 entries
---     roomAfter a new old, lentAfter a new old    what is lent at an answer: new on success, old at a refusal
---     ReadAnswers f heights table a               a is the answer of `read`
+--     writtenTold a, readTold a               what an answer tells the caller
+--     writeTests rows cells n unsound room    the order of refusals of `write`, for so many cells, records and bytes of
+--                                             room, at the index of the first unsound record
+--     miscounted f cells n                    the header of f is not that of so many cells and records
+--     readTests f heights table unsound       the order of refusals of `read`, for so many lent heights and table
+--                                             entries
+--     roomAfter, lentAfter a new old          what is lent at an answer: new on success, old at a refusal
+--     ReadAnswers f heights table a           a is the answer of `read`
 -- Assumes nothing.
 use mathlib.Core.Bool.{Bool, not, _||_}
 use mathlib.Core.List.{List, [], _∷_}

@@ -1,17 +1,17 @@
-// Writing all but the records, and one record at a time.
+// Writing all but the records.
 ghost use mathlib.Core.List.{[], _∷_, map};
 ghost use mathlib.Core.Path.{_≡_};
 ghost use Prim.Native.Nat.{_+_, _*_, _<_, _≤_};
 ghost use lib.ListN.{length};
 ghost use Rattle.record.specs.Refusals.{granted, firstOf, toldBy};
-ghost use Rattle.layout.specs.Layout.{bitsOf, wordOf, bytesOf, headerOf, fieldsOf, totalOf};
+ghost use Rattle.layout.specs.Layout.{bitsOf, bytesOf, headerOf, totalOf};
 ghost use Rattle.layout.specs.Promises.{writtenTold, writeTests};
 ghost use Rattle.layout.specs.Inner.{gridTests, over, Few, GridPut, putOf};
 use crate::Written;
 use crate::numbers::bits;
+use crate::numbers::put_word;
 use record::Cell;
 use record::Checked;
-use record::Peak;
 use record::Refusal;
 
 // The tests of the grid: 1, 2, 3.
@@ -49,14 +49,6 @@ fn plan(rows: u32, cells: usize, n: usize, unsound: usize, room: usize) -> Writt
     Written::Bytes(words::narrow(total))
 }
 
-// Puts a number at the i-th place of four bytes.
-fn put_word(room: &mut [u8], i: usize, v: u32)
-    requires { ⌜ 4 * i + 4 ≤ length (now room) ⌝ }
-    ensures { λ r. ⌜ now (room .exit) ≡ over (now (room .entry)) (4 * i) (wordOf v) ⌝ }
-{
-    words::put(room, i, v);
-}
-
 fn put_header(room: &mut [u8], rows: u32, cells: usize, n: usize)
     requires { ⌜ (totalOf cells n ≤ length (now room)) × ((totalOf cells n < 4294967296) × (0 < rows)) ⌝ }
     ensures { λ r. ⌜ now (room .exit) ≡ over (now (room .entry)) 0 (bytesOf (headerOf rows cells n)) ⌝ }
@@ -81,18 +73,6 @@ fn put_heights(room: &mut [u8], heights: &[i32])
         put_word(room, 6 + i, bits(heights[i]));
         i += 1;
     }
-}
-
-// Puts the i-th record behind so many cells.
-pub fn put_record(room: &mut [u8], cells: usize, i: usize, p: Peak)
-    requires { ⌜ totalOf cells (i + 1) ≤ length (now room) ⌝ }
-    ensures { λ r. ⌜ now (room .exit) ≡ over (now (room .entry)) (totalOf cells i) (bytesOf (fieldsOf p)) ⌝ }
-{
-    let at = 6 + cells + 4 * i;
-    put_word(room, at, p.cell);
-    put_word(room, at + 1, bits(p.height));
-    put_word(room, at + 2, bits(p.key));
-    put_word(room, at + 3, p.pass);
 }
 
 // The number of records that the answer says are to be put.

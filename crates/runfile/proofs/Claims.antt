@@ -5,7 +5,7 @@
 -- Assumes nothing.
 use mathlib.Core.List.{List, [], _∷_, _++_, map}
 use mathlib.Core.Path.{_≡_, sym, ap, _∙_}
-use Prim.Native.Nat.{ℕ, _*_, _/_, _%_, _≤_, _<_}
+use Prim.Native.Nat.{ℕ, _+_, _*_, _/_, _%_, _≤_, _<_}
 use native.Mathlib.Nat.{mul-mod-right}
 use native.Mathlib.Omega.{arith}
 use lib.IntN.{ℤ}
@@ -29,7 +29,7 @@ use Rattle.layout.specs.Inner.{cellsToTake, recordsToTake}
 use Rattle.layout.proofs.Files.{file-length, file-rows, file-columns, file-peaks, file-offset, file-offset-2}
 use Rattle.layout.proofs.Files.{file-total, back-cells, back-heights, back-records, read-file}
 use Rattle.layout.proofs.ReadAnswer.{Readable, readable-good, read-readable, read-same, read-differ}
-use Rattle.layout.proofs.Rows.{heights-length, records-length}
+use Rattle.layout.proofs.Rows.{heights-length, peaks-length}
 use Rattle.sound.proofs.Scans.{first-unique, first-all, first-few}
 use Rattle.layout.proofs.WriteAnswer.{Gridded, written-bytes, written-differ}
 use Rattle.runfile.specs.Promises.{Writes, Reads}
@@ -139,8 +139,8 @@ reads-back-writes rows hs s s′ ps t t′ room room′ w a grid all long room-s
 lists-read-back : ListsReadBack
 lists-read-back rows hs s s′ T l t t′ room room′ w a grid listed =
     reads-back-writes rows hs s s′ (map recordOf l) t t′ room room′ w a grid
-    (sound-claims .list-sound (touchOf (planeOf rows)) (plane-symmetric rows) hs (grid .fit) (omega (arith, grid .cells))
-    T l listed)
+    (sound-claims .list-sound (touchOf (planeOf rows)) (plane-symmetric rows) hs (grid .fit)
+    (omega (arith, grid .cells)) T l listed)
 
 -- ---- read and written back
 
@@ -154,9 +154,10 @@ module _ {f : List ℕ} {heights table u : ℕ} (bytes : (k : ℕ) → getD f k 
       let hs = heightsIn f (cellsIn f) in
       let ps = recordsFrom f (cellsIn f) (peaksIn f) in
       let cells = heights-length f (cellsIn f) in
-      let peaks = records-length f (cellsIn f) (peaksIn f) in
+      let peaks = peaks-length f (6 + cellsIn f) (peaksIn f) in
       let same = first-unique (writes .first) first in
-      let total : totalOf (length hs) (length ps) ≡ length f = omega (arith, can .whole .total, can .whole .counted .total) in
+      let total : totalOf (length hs) (length ps) ≡ length f =
+      omega (arith, can .whole .total, can .whole .counted .total) in
       let whole = ap (λ (n : ℕ). n % rowsIn f) cells ∙ mul-mod-right (rowsIn f) (columnsIn f) in
       let answer : w ≡ Bytes (length f) =
       written-differ w (Bytes (totalOf (length hs) (length ps)))
@@ -182,7 +183,7 @@ writes-back-reads f s s′ t t′ rows columns peaks room room′ w bytes long r
     ∙ take-at hs (drop (cellsIn f) s) (rows * columns) (heights-length f (cellsIn f) ∙ sym cells) in
     let records : take peaks t′ ≡ ps =
     ap (take peaks) (reads .table)
-    ∙ take-at ps (drop (peaksIn f) t) peaks (records-length f (cellsIn f) (peaksIn f) ∙ sym count) in
+    ∙ take-at ps (drop (peaksIn f) t) peaks (peaks-length f (6 + cellsIn f) (peaksIn f) ∙ sym count) in
     file-written bytes can (j .first) room room′ w long (rw (heights, records, rows-are) at writes)
 
 pub claims : Claims

@@ -21,7 +21,9 @@ abbrev start : tie.After-has-key → tie.Start
 start c = c .before .before .before .before .before .before
 
 abbrev key-fits : (c : tie.After-has-key) → SFits w32 (start c .args .p .key)
-key-fits c = let told = c .before .before .before .before .before in record { sfits = told .struct-told .given .1 .1 .0 .1 }
+key-fits c =
+    let told = c .before .before .before .before .before in
+    record { sfits = told .struct-told .given .1 .1 .0 .1 }
 
 abbrev height-fits : (c : tie.After-has-key) → SFits w32 (start c .args .p .height)
 height-fits c = record { sfits = c .before .before .before .struct-told2 .given .1 .0 .1 }
@@ -40,7 +42,8 @@ given c = not-true _ (sym (c .before .has-key .ensures) ∙ not-false _ (c .if1 
 
 returns : tie.Need-returns
 returns c hs len there =
-    keyless-decides (key-fits (c .before)) (not-false _ (sym (c .before .has-key .ensures) ∙ not-true _ (c .if1 .taken)))
+    keyless-decides (key-fits (c .before))
+    (not-false _ (sym (c .before .has-key .ensures) ∙ not-true _ (c .if1 .taken)))
 
 returns-2 : tie.Need-returns-2
 returns-2 c hs len there =

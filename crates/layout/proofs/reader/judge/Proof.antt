@@ -1,5 +1,5 @@
--- `layout::judge` meets its contract: its tests are those of `readTests`, in their order. Behind those of the header the
--- file has all its records, so that the first unsound one can be looked for. Assumes nothing.
+-- `layout::judge` meets its contract: its tests are those of `readTests`, in their order. Behind those of the header
+-- the file has all its records, so that the first unsound one can be looked for. Assumes nothing.
 use mathlib.Core.List.{List, [], _∷_}
 use mathlib.Core.Path.{_≡_, sym, ap₂, _∙_}
 use Prim.Native.Nat.{ℕ, _*_}
@@ -103,7 +103,8 @@ returns-3 c =
       unsound = at-first at .first-unsound-in .result;
       first = first (at-first at);
       answered =
-          counts-same (at-peaks .before .before .get .ensures) (at-peaks .before .get2 .ensures) (at-peaks .get3 .ensures)
+          counts-same (at-peaks .before .before .get .ensures) (at-peaks .before .get2 .ensures)
+          (at-peaks .get3 .ensures)
           ∙ sym (told-by _ (sym (made at) ∙ c .enum-told2 .given .1));
     }
 

@@ -12,7 +12,7 @@ use borrow.Author.Needs.{needs}
 use Rattle.record.specs.declared.Peak.{Peak}
 use Rattle.layout.specs.Layout.{heightsIn, recordFrom, recordsFrom}
 use Rattle.sound.specs.Sound.{Sound, ithOf}
-use Rattle.layout.proofs.Rows.{records-length, records-at}
+use Rattle.layout.proofs.Rows.{peaks-length, peaks-at}
 use Rattle.sound.proofs.Scans.{SoundBefore, scan-start, scan-step, scan-stop, scan-done}
 use Rattle.layout.proofs.soundness.first_unsound_in.Statement.{statement}
 use Rattle.layout.proofs.soundness.first_unsound_in.Tie as tie
@@ -29,11 +29,11 @@ abbrev μ-loop : tie.MeasureT-loop
 module _ (f : List ℕ) (cells n : ℕ) {i least : ℕ} {p : Peak} (scan : ScanOf f cells n i least) (l : i < n)
     (e : p ≡ recordFrom f cells i) where
   same : ithOf (recordsFrom f cells n) i ≡ p
-  same = records-at f cells n i l ∙ sym e
+  same = peaks-at f (6 + cells) n i l ∙ sym e
 
   scan-on : {next : ℕ} → Sound (heightsIn f cells) least p → next ≡ p .cell + 1 → ScanOf f cells n (i + 1) next
   scan-on {next} s d =
-      let on = scan-step scan (omega (arith, records-length f cells n)) (rw same s) in
+      let on = scan-step scan (omega (arith, peaks-length f (6 + cells) n)) (rw same s) in
       let behind : suc (ithOf (recordsFrom f cells n) i .cell) ≡ next =
       omega (arith, ap (λ (q : Peak). q .cell) same) in
       rw (add-one i) (rw behind at on)
@@ -74,7 +74,7 @@ loop-again c =
 returns-2 : tie.Need-returns-2 Inv-loop μ-loop
 returns-2 c =
     let args = c .before .before .before .args in
-    scan-done (c .before .loop .inv) (omega (arith, records-length (now (args .file)) (args .cells) (args .n)))
+    scan-done (c .before .loop .inv) (omega (arith, peaks-length (now (args .file)) (6 + args .cells) (args .n)))
 
 pub first-unsound-in-spec : {M : Type 1} → statement M
 first-unsound-in-spec =

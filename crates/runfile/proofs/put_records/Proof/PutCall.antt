@@ -45,8 +45,8 @@ use Rattle.record.proofs.Peak.Laws as T′
 use Rattle.table.proofs.LentAgain.{LentMut, lends-again, comes-back}
 use Rattle.layout.specs.Layout.{bytesOf, fieldsOf, totalOf}
 use Rattle.layout.specs.Inner.{over}
-use Rattle.layout.proofs.writer.put_record as put-one
-use Rattle.layout.proofs.writer.put_record.Symbol.{name as #layout·put-record}
+use Rattle.layout.proofs.records.put_record as put-one
+use Rattle.layout.proofs.records.put_record.Symbol.{name as #layout·put-record}
 
 abbrev pub PutOne : {M : Type 1} (𝓤 : URA M) (H : Heap 𝓤) (A : Atoms 𝓤) (mem : Memory → SProp 𝓤)
     (run : Routine → Fun 𝓤) → Contract 𝓤

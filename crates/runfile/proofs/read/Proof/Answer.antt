@@ -12,7 +12,7 @@ use lib.ListN.{length, drop}
 use Rattle.record.specs.declared.Peak.{Peak}
 use Rattle.layout.specs.declared.ReadBack.{ReadBack}
 use Rattle.layout.specs.declared.ReadBack.the-variants.{Run, Refused}
-use Rattle.layout.specs.Layout.{peaksIn, cellsIn, recordsFrom}
+use Rattle.layout.specs.Layout.{peaksIn, cellsIn, peaksFrom, recordsFrom}
 use Rattle.layout.specs.Promises.{ReadAnswers, lentAfter}
 use Rattle.layout.specs.Inner.{Takable, cellsToTake, recordsToTake, filledFrom}
 use Rattle.layout.proofs.ReadAnswer.{read-readable, read-same}
@@ -34,7 +34,7 @@ module _ (f : List ℕ) (heights : ℕ) (ps : List Peak) where
   pub taken : (a : ReadBack) → ReadAnswers f heights (length ps) a
       → filledFrom ps f (cellsToTake a) (recordsToTake a)
       ≡ lentAfter a (recordsFrom f (cellsIn f) (peaksIn f) ++ drop (peaksIn f) ps) ps
-  unfolding recordsFrom
+  unfolding peaksFrom
   taken (Run rows columns peaks) j =
       let same = read-same f heights (length ps) (j .unsound) (j .answered) in
       ap (λ (a : ReadBack). filledFrom ps f (cellsToTake a) (recordsToTake a)) same

@@ -1,5 +1,5 @@
 -- The call of `record_from` as one step of its caller's walk. The file is a `&`: a copy of what it owns is passed.
---     RecordIn            the contract of `record_from`
+--     RecordFrom            the contract of `record_from`
 --     fileVal, File       the machine's value of the file, and what the file owns
 --     calls-record        the caller has the token and the file, and has them after it, with what the record owns
 -- The operands are read with what `record_from` asks in front. After `proofs/put_back` of the kit's example `writer`.
@@ -39,9 +39,9 @@ use Rattle.layout.specs.Layout.{recordFrom, totalOf}
 use Rattle.layout.proofs.records.record_from as record-from
 use Rattle.layout.proofs.records.record_from.Symbol.{name as #layout·record-from}
 
-abbrev pub RecordIn : {M : Type 1} (𝓤 : URA M) (H : Heap 𝓤) (A : Atoms 𝓤) (mem : Memory → SProp 𝓤)
+abbrev pub RecordFrom : {M : Type 1} (𝓤 : URA M) (H : Heap 𝓤) (A : Atoms 𝓤) (mem : Memory → SProp 𝓤)
     (run : Routine → Fun 𝓤) → Contract 𝓤
-RecordIn 𝓤 H A mem run = tripleOf 𝓤 H A record-from.signature (record-from.spec 𝓤 H A mem run)
+RecordFrom 𝓤 H A mem run = tripleOf 𝓤 H A record-from.signature (record-from.spec 𝓤 H A mem run)
 
 abbrev pub fileVal : RefT (List ℕ) → Val
 fileVal s = sliceVal (s .ptr) (length (s .now))
@@ -54,12 +54,12 @@ module _ {M : Type 1} (𝓤 : URA M) (H : Heap 𝓤) (A : Atoms 𝓤) (W : Given
   abbrev found : Peak
   found = recordFrom (s .now) n i
 
-  abbrev to-record : RecordIn 𝓤 H A mem run .Ghost
+  abbrev to-record : RecordFrom 𝓤 H A mem run .Ghost
   to-record =
       (((κ, tt), (q, tt), tt, (s, (n, (i, tt))), (fileVal s ∷ [], (vint w64 n ∷ [], (vint w64 i ∷ [], tt)))), tt)
 
   goes-record : totalOf n (i + 1) ≤ length (s .now) → n < 2 ^ 64 → i < 2 ^ 64
-      → ent 𝓤 (sep 𝓤 (A .lft κ q) (sem 𝓤 H A (File κ s))) (RecordIn 𝓤 H A mem run .pre to-record)
+      → ent 𝓤 (sep 𝓤 (A .lft κ q) (sem 𝓤 H A (File κ s))) (RecordFrom 𝓤 H A mem run .pre to-record)
   goes-record long n-fits i-fits =
       qed W (‵ (flft κ q) ∷ ‵ (File κ s) ∷ []) ∵ says ! long $ nothing ! $ move ! (1 ∷ 0 ∷ []) $ join ! $ frame ! $
       nothing ! $ owned ! usize (Is usize) (uint-makes 𝓤 H A W w64) i _ (refl, i-fits) $ fjoin ! $
@@ -74,9 +74,9 @@ module _ {M : Type 1} (𝓤 : URA M) (H : Heap 𝓤) (A : Atoms 𝓤) (W : Given
 
   module _ {K : Type 0} {Γ : List (Item 𝓤)} {E : Env 𝓤 H} {C : Calls 𝓤 H} {Λ : Loops 𝓤 H} {p : Post 𝓤 H}
       {xs : List Operand} {d : Place} {rest : Body} where
-    pub calls-record : K → FmC 𝓤 H (W .laws) C → Triple 𝓤 (C #layout·record-from) (RecordIn 𝓤 H A mem run)
+    pub calls-record : K → FmC 𝓤 H (W .laws) C → Triple 𝓤 (C #layout·record-from) (RecordFrom 𝓤 H A mem run)
         → totalOf n (i + 1) ≤ length (s .now) → n < 2 ^ 64 → i < 2 ^ 64
-        → Opds K W (raw (RecordIn 𝓤 H A mem run .pre to-record) ∷ ‵ (File κ s) ∷ Γ) E xs
+        → Opds K W (raw (RecordFrom 𝓤 H A mem run .pre to-record) ∷ ‵ (File κ s) ∷ Γ) E xs
         (fileVal s ∷ vint w64 n ∷ vint w64 i ∷ [])
         → ((v : Val) → Is T.the-row found (v ∷ [])
         → Seq K W (‵ (T.the-row .own found (v ∷ [])) ∷ ‵ (flft κ q) ∷ ‵ (File κ s) ∷ Γ) (lands C Λ E d v rest p))
@@ -85,8 +85,8 @@ module _ {M : Type 1} (𝓤 : URA M) (H : Heap 𝓤) (A : Atoms 𝓤) (W : Given
         move k (1 ∷ []) $
         use1 W (‵ (File κ s) ⊛ ‵ (File κ s)) (shr-slice-copy 𝓤 H A W (named 1) κ u8 .twice s (fileVal s ∷ [])) $
         split k $ move k (2 ∷ 0 ∷ []) $
-        use2 W (raw (RecordIn 𝓤 H A mem run .pre to-record)) (goes-record long n-fits i-fits) $
-        calls-at k fm (RecordIn 𝓤 H A mem run) known to-record os (λ v.
+        use2 W (raw (RecordFrom 𝓤 H A mem run .pre to-record)) (goes-record long n-fits i-fits) $
+        calls-at k fm (RecordFrom 𝓤 H A mem run) known to-record os (λ v.
         use1 W (later (some (λ (y : Peak). ((‵ (flft κ q) ⊛ ‵ ftrue) ⊛ ‵ (T.the-row .own y (v ∷ [])))
         ⊛ raw (ensured 𝓤 H A record-from.ended (record-from.clauses 𝓤 H A mem run) (κ, tt) (s, (n, (i, tt))) tt y))))
         (id⊢ 𝓤 _) $ await k tt $ pick k (λ y. split k $ move k (1 ∷ []) $

@@ -3,8 +3,8 @@ use native.Mathlib.Omega.{arith}
 use borrow.Author.Needs.{needs}
 use denote.Ref.{now}
 use Rattle.layout.proofs.Over.{over-word}
-use Rattle.layout.proofs.writer.put_word.Statement.{statement}
-use Rattle.layout.proofs.writer.put_word.Tie as tie
+use Rattle.layout.proofs.numbers.put_word.Statement.{statement}
+use Rattle.layout.proofs.numbers.put_word.Tie as tie
 
 returns : tie.Need-returns
 returns c =

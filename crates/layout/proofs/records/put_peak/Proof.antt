@@ -1,16 +1,17 @@
--- `layout::put_record` meets its contract: the four numbers are laid one after the other (`over-next`).
+-- `layout::put_peak` meets its contract: the four numbers are laid one after the other (`over-next`).
 -- Assumes nothing.
 use mathlib.Core.List.{[], _∷_}
 use mathlib.Core.Path.{refl, ap, _∙_}
+use Prim.Native.Nat.{_*_}
 use native.Mathlib.Omega.{arith}
 use denote.Ref.{now}
 use mir.Syntax.{w32}
 use mir.ValLaws.{toZ-ofZ}
 use borrow.Author.Needs.{needs}
-use Rattle.layout.specs.Layout.{bitsOf, fieldsOf, totalOf}
+use Rattle.layout.specs.Layout.{bitsOf, fieldsOf}
 use Rattle.layout.proofs.Over.{over-nil, over-next}
-use Rattle.layout.proofs.writer.put_record.Statement.{statement}
-use Rattle.layout.proofs.writer.put_record.Tie as tie
+use Rattle.layout.proofs.records.put_peak.Statement.{statement}
+use Rattle.layout.proofs.records.put_peak.Tie as tie
 
 returns : tie.Need-returns
 unfolding fieldsOf
@@ -21,11 +22,11 @@ returns c =
     let c16 = c12 .before .before .before .before in
     let c20 = c16 .before .before .before .before in
     let args = c20 .before .args in
-    let s = now (args .room) in
+    let s = now (args .s) in
     let cell = args .p .cell in
     let height = bitsOf (args .p .height) in
     let key = bitsOf (args .p .key) in
-    let at = totalOf (args .cells) (args .i) in
+    let at = 4 * args .at in
     let height-is =
     c12 .before .bits .ensures
     ∙ ap bitsOf (toZ-ofZ w32 (args .p .height) (record { sfits = c12 .before .before .struct-told .given .1 .0 .1 })) in
@@ -44,13 +45,10 @@ returns c =
     over-next s (cell ∷ height ∷ key ∷ []) (args .p .pass) at _ (omega arith) e2 (omega arith) refl
     (c .before .before .put-word4 .ensures)
 
-pub put-record-spec : {M : Type 1} → statement M
-put-record-spec =
+pub put-peak-spec : {M : Type 1} → statement M
+put-peak-spec =
     tie.close
     (tie.spec
-    (λ c. search needs)
-    (λ c. search needs)
-    (λ c. search needs)
     (λ c κs. search needs)
     (λ c. search needs)
     (λ c κs. search needs)
