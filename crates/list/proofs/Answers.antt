@@ -19,8 +19,7 @@ use Rattle.relief.specs.Peaks.{Entry, Listed, ListOf}
 use Rattle.relief.specs.Inner.{cut}
 use Rattle.relief.specs.Plane.{planeOf, touchOf}
 use Rattle.relief.proofs.Survey.{survey, survey-list}
-use Rattle.relief.proofs.Plane.{plane?}
-use Rattle.relief.proofs.PlaneRun.{plane-terrain}
+use Rattle.relief.proofs.Shapes.{touch?, shape-terrain}
 use Rattle.record.specs.declared.Refusal.{Refusal}
 use Rattle.record.specs.declared.Refusal.the-variants.{Rows, Length, Cells, Work}
 use Rattle.record.specs.declared.Checked.{Checked}
@@ -36,7 +35,7 @@ use Rattle.table.specs.Inner.{roomAnswer}
 use Rattle.table.proofs.Handed.{worked-late, flat-refused, flat-made}
 use Rattle.survey.specs.Answers.{entriesIn, Loading, Loaded, Surveying, Answered}
 use Rattle.survey.proofs.Records.{places-record, places-length}
-use Rattle.survey.proofs.Marks.{loaded-levels}
+use Rattle.survey.proofs.Loads.{loaded-levels}
 use Rattle.list.specs.Promises.{listTests}
 use Rattle.list.specs.Inner.{ListsFlat, GoodGrid}
 
@@ -95,7 +94,7 @@ module _ (rows : ℕ) (heights : List ℤ) (T room : ℕ) (work : List ℕ) {lef
       → ListsFlat rows heights T work room left (Refused r)
   grid-refused bad same =
       flat-refused (listTests rows (length heights) (length work))
-      (survey (plane? rows) (levels heights) (length heights) T) (survey-list (plane-terrain rows heights) T) bad same
+      (survey (touch? (planeOf rows)) (levels heights) (length heights) T) (survey-list (shape-terrain (planeOf rows) heights) T) bad same
 
   pub grid-listed : GoodGrid rows (length heights) (length work) → {t : List ℕ} {k : ℕ} {a : Handed}
       → Loaded work t heights (length heights)
@@ -103,7 +102,7 @@ module _ (rows : ℕ) (heights : List ℤ) (T room : ℕ) (work : List ℕ) {lef
       → a ≡ roomAnswer room k → ListsFlat rows heights T work room left a
   grid-listed g {t} {k} loaded made =
       flat-made (listTests rows (length heights) (length work)) (entriesIn left (length heights) k) right (g .good)
-      (worked-late (g .good) (made .len ∙ loaded .len) ?)
+      (worked-late (g .good) (made .len ∙ loaded .len) (λ i l. made .beyond i l ∙ loaded .beyond i l))
       (sym (places-length _ k)) (made .counted) (places-record left (length heights) k)
     where
       right : ListOf (touchOf (planeOf rows)) (levels heights) T (entriesIn left (length heights) k)

@@ -1,12 +1,13 @@
-pub mod Tests
-pub mod Ways
-pub mod Reach
-pub mod Flats
-pub mod Keys
-pub mod Lists
-pub mod Survey
-pub mod BatchSurvey
-pub mod Closed
-pub mod Batches
-pub mod PlaneRun
-pub mod Plane
+pub mod Tests  -- tests that compute, and what they decide
+pub mod Levels  -- heights, levels, and levels cut off at a cell
+pub mod Ways  -- ways and paths, and the least level on them
+pub mod Reach  -- whether there is a way, by a test
+pub mod Flats  -- flats and peaks; what outranks is better
+pub mod Keys  -- key heights, islands, pass cells
+pub mod Lists  -- entries, and lists in reading order
+pub mod Survey  -- the definitions computed: entries and the list
+pub mod BatchSurvey  -- and what the calls of a run hand out
+pub mod Closed  -- what is closed stays, what is open can change
+pub mod Batches  -- the batches hold the list
+pub mod Plane  -- touching in the plane
+pub mod Shapes  -- grids and runs of any shape

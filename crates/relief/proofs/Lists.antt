@@ -1,6 +1,7 @@
 -- Lists in reading order: two that hold the same entries are equal, and a test at every cell makes one.
 --     entry-unique      a peak has one entry
 --     entry-floor, entry-best    its key height is below it, and nothing on its island is better
+--     alike-*           entries that are the same but for the pass cell
 --     order-unique      two lists in reading order of the same entries are equal
 --     collect           the entries of the cells that pass a test, in reading order
 --     collect-order     and that they are a list in reading order
@@ -11,12 +12,13 @@ use mathlib.Core.List.{List, [], _∷_}
 use mathlib.Core.Logic.{_⊎_, inl, inr}
 use Prim.Native.Nat.{ℕ, zero, suc, _+_, _≤_, _<_, zero-le}
 use native.Mathlib.Omega.{arith}
-use Rattle.relief.specs.Peaks.{Key, missing, key, Entry, floorOf, KeyOf, PeakEntry, PassCell, Member, Rising}
-use Rattle.relief.specs.Peaks.{InReadingOrder}
+use Rattle.relief.specs.Peaks.{Key, missing, key, Entry, floorOf, Alike, KeyOf, PeakEntry, PassCell, Member}
+use Rattle.relief.specs.Peaks.{Wanted, Rising, InReadingOrder}
 use Rattle.relief.specs.Inner.{Decides, Best}
 use Rattle.relief.proofs.Tests.{split, below-suc}
 use Rattle.relief.proofs.Flats.{Terrain}
-use Rattle.relief.proofs.Keys.{key-unique, key-exclusive, pass-unique, key-below, best-of-key, best-of-none}
+use Rattle.relief.proofs.Keys.{key-unique, key-exclusive, key-land, pass-unique, key-below}
+use Rattle.relief.proofs.Keys.{best-of-key, best-of-none}
 
 -- ---- a peak has one entry
 
@@ -54,6 +56,28 @@ module _ {touch : ℕ → ℕ → Type 0} {touch? : ℕ → ℕ → Bool} {level
       go : (k : Key) → KeyOf touch level (e .cell) k → Best touch level (floorOf k) (e .cell)
       go missing n = best-of-none t (h .peak) n
       go (key k c) n = best-of-key t (h .peak) (n .0)
+
+-- ---- entries that are alike
+
+pub alike-refl : (e : Entry) → Alike e e
+alike-refl e = record { cell = refl; level = refl; floor = refl }
+
+pub alike-sym : {d e : Entry} → Alike d e → Alike e d
+alike-sym h = record { cell = sym (h .cell); level = sym (h .level); floor = sym (h .floor) }
+
+pub alike-trans : {c d e : Entry} → Alike c d → Alike d e → Alike c e
+alike-trans h i = record { cell = h .cell ∙ i .cell; level = h .level ∙ i .level; floor = h .floor ∙ i .floor }
+
+-- of entries that are alike both are wanted or none is, for a key height is above 0
+pub wanted-alike : {touch : ℕ → ℕ → Type 0} {level level′ : ℕ → ℕ} (T : ℕ) (d e : Entry) → Alike d e
+    → PeakEntry touch level d → PeakEntry touch level′ e → Wanted T (e .level) (e .key) → Wanted T (d .level) (d .key)
+wanted-alike {touch} {level} {level′} T d e a r r′ = go (d .key) (e .key) (r .keyed) (r′ .keyed) (a .floor)
+  where
+    go : (k k′ : Key) → KeyOf touch level (d .cell) k → KeyOf touch level′ (e .cell) k′ → floorOf k ≡ floorOf k′
+        → Wanted T (e .level) k′ → Wanted T (d .level) k
+    go missing k′ h h′ f w = tt
+    go (key k c) missing h h′ f w = let l = key-land (h .0) in absurd (omega arith)
+    go (key k c) (key k′ c′) h h′ f w = let l = a .level in omega arith
 
 -- ---- two lists of the same entries
 

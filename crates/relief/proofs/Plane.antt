@@ -2,6 +2,7 @@
 --     plane?, plane-decides     the test
 --     place-number              a cell's number is that of its place
 --     around rows c i           the i-th of the eight cells around c
+--     plane-next                a cell touches the one beside it in the next column
 --     plane-fence               a cell before the last column touches no cell of a further column
 -- Assumes nothing.
 use mathlib.Core.Path.{_≡_, refl, sym, _∙_, ap}
@@ -10,6 +11,7 @@ use mathlib.Core.List.{[], _∷_}
 use mathlib.Core.Logic.{_⊎_, inl, inr}
 use Prim.Native.Nat.{ℕ, zero, suc, _+_, _-_, _*_, _≤_, _<_, zero-le}
 use native.Mathlib.Nat.{div-add-mod', div-lt-iff-lt-mul, le-div-iff-mul-le, suc-mul, mul-zero, le-antisymm}
+use native.Mathlib.Nat.{add-mod-right, add-div-right}
 use native.Mathlib.Omega.{arith}
 use lib.Dec.{eqb, leb}
 use lib.ListN.{getD}
@@ -99,13 +101,25 @@ plane-eight rows c d h =
         (λ r. (1, omega arith, omega arith))
         (λ s. split s (λ r. (2, omega arith, omega arith)) (λ r. (0, omega arith, omega arith)))
 
+-- where there is a cell, there is a row
+pub cell-rows : (rows columns c : ℕ) → c < columns * rows → 0 < rows
+cell-rows rows columns c l =
+    split (le-or-lt rows 0)
+    (λ z. let e : columns * rows ≡ 0 = ap (λ (x : ℕ). columns * x) (le-antisymm z zero-le) ∙ mul-zero columns in
+    absurd (omega arith))
+    (λ z. z)
+
+pub plane-next : (rows c : ℕ) → 0 < rows → Plane rows c (c + rows)
+plane-next rows c l =
+    let e : rowOf rows (c + rows) ≡ rowOf rows c = add-mod-right c rows in
+    let f : columnOf rows (c + rows) ≡ columnOf rows c + 1 = add-div-right c l in
+    record { row = (omega arith, omega arith); column = (omega arith, omega arith); other = λ q. omega arith }
+
 pub plane-fence : (rows columns a d : ℕ) → a < columns * rows - rows → columns * rows ≤ d → Plane rows a d → ⊥
 plane-fence rows zero a d l m h = absurd (omega arith)
 plane-fence rows (suc j) a d l m h =
     let e : suc j * rows ≡ j * rows + rows = suc-mul j rows in
-    let r : 0 < rows = split (le-or-lt rows 0)
-    (λ z. let i : j * rows ≡ 0 = ap (λ (x : ℕ). j * x) (le-antisymm z zero-le) ∙ mul-zero j in
-    absurd (omega arith)) (λ z. z) in
+    let r = cell-rows rows (suc j) a (omega arith) in
     let x : columnOf rows a < j = div-lt-iff-lt-mul r .1 (omega arith) in
     let y : suc j ≤ columnOf rows d = le-div-iff-mul-le r .1 m in
     let z = h .column in

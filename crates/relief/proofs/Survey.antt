@@ -19,7 +19,7 @@ use Rattle.relief.proofs.Tests.{eq-decides, le-decides, lt-decides, and
 use Rattle.relief.proofs.Tests.{all-decides, decides-iff}
 use Rattle.relief.proofs.Ways.{way-end, way-mono, least-below, least-attained, path-of-way}
 use Rattle.relief.proofs.Reach.{reach, way-decides}
-use Rattle.relief.proofs.Flats.{Terrain, land-below, flat?, flat-land, flat-decides, peak-not-better}
+use Rattle.relief.proofs.Flats.{Terrain, land-below, flat?, flat-below, flat-decides, peak-not-better}
 use Rattle.relief.proofs.Keys.{key-of-best, none-of-best, pass, pass-exists}
 use Rattle.relief.proofs.Lists.{entry-unique, collect, collect-order}
 
@@ -103,7 +103,7 @@ module _ {touch : ℕ → ℕ → Type 0} {touch? : ℕ → ℕ → Bool} {level
 
       make : Parts → Peak touch level p
       make h =
-          let at : (b : ℕ) → Flat touch level p b → b < n = λ b w. land-below t b (way-end (flat-land (h .0) w)) in
+          let at : (b : ℕ) → Flat touch level p b → b < n = λ b w. flat-below t (h .0) w in
           record {
             land = h .0;
             top = λ b c w s. split (le-or-lt n c)

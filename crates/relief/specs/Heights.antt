@@ -1,6 +1,5 @@
 -- Heights and levels: section "Grid, cells and heights" of document 01. The level of a height is the height moved up by
--- 2^31: levels are natural numbers in the order of the heights, and differ by what the heights differ by. A blank cell
--- and a cell that isn't there both have level 0. Assumes nothing.
+-- 2^31: a natural number, in the order of the heights; levels differ by what heights differ by. Assumes nothing.
 use mathlib.Core.{Bool.true, Bool.false, List.List}
 use Prim.Native.Nat.{ℕ, _+_, _-_}
 use lib.{Dec.leb, IntN.ℤ, IntN.pos, IntN.negsuc, ListN.getD}

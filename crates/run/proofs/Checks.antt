@@ -1,170 +1,101 @@
--- The tests of Column and End, one after the other: the answer at each return.
---     column-*, end-*          the answer at each return, by the tests so far
---     product-fits, -wide      a product of columns and rows stays in 64 bits
+-- The tests of the calls: made one after the other they are those of the paper, and what is known where none applies.
+--     run-made, column-made, end-made    what the tests answer, in the code's own numbers
+--     column-passed, end-passed          what is known where none applies
+--     product-fits, sum-fits             the cells of a record, with a column more, stay in 64 bits
 -- Assumes nothing.
-use mathlib.Core.Path.{_≡_, sym, _∙_, ap₂}
-use mathlib.Core.Bool.{true, false, _||_}
+use mathlib.Core.Path.{_≡_, refl, sym, _∙_, ap, ap₂}
+use mathlib.Core.Bool.{Bool, not}
 use Prim.Native.Nat.{ℕ, _+_, _*_, _≤_, _<_}
 use native.Mathlib.Nat.{mul-le-mul-right}
 use native.Mathlib.Omega.{arith}
 use lib.Dec.{eqb, ltb}
-use borrow.Author.Tests.{eq-eqb, ne-eqb, lt-ltb, le-ltb}
+use borrow.Author.Tests.{eqb-true, ltb-false, not-false}
+use Rattle.relief.proofs.Tests.{or-false}
 use Rattle.record.specs.declared.Refusal.the-variants.{Rows, Cells, Work, Ended, ColumnLength, GridFull, TakenCells}
-use Rattle.record.specs.Refusals.{badRows}
+use Rattle.record.specs.declared.Checked.{Checked}
+use Rattle.record.specs.declared.Checked.the-variants.{Good}
+use Rattle.record.specs.Refusals.{firstOf, badRows}
+use Rattle.record.specs.Inner.{thenTest}
+use Rattle.record.proofs.Refusals.{rows-known}
+use Rattle.record.proofs.Tests.{Makes, make, then, first-passed}
 use Rattle.run.specs.declared.Run.{Run}
-use Rattle.run.specs.declared.Started.the-variants as Started
-use Rattle.run.specs.declared.Checked.the-variants.{Good, Bad}
-use Rattle.run.specs.Running.{takenOf, startAnswer, columnCheck, endCheck}
+use Rattle.run.specs.Promises.{heldOf, badRecord, runTests, columnTests, endTests}
+use Rattle.run.specs.Inner.{GoodColumn, GoodEnd}
 
--- ---- Start
+-- ---- numbers of 64 bits
 
-pub start-bad : (rows T : ℕ) → badRows rows ≡ true → Started.Refused Rows ≡ startAnswer rows T
-unfolding startAnswer
-start-bad rows T e = simp e
-
-pub start-good : (rows T : ℕ) → badRows rows ≡ false
-    → Started.Begun (record { rows = rows; columns = 0; threshold = T; ended = false }) ≡ startAnswer rows T
-unfolding startAnswer
-start-good rows T e = simp e
-
--- the product of columns and rows fits
-pub product-fits : {r k rows columns : ℕ} → r ≡ rows → k ≡ columns → rows ≤ 1024 → columns < 4294967296
+pub product-fits : {r k rows columns : ℕ} → k ≡ columns → r ≡ rows → columns < 4294967296 → rows < 4294967296
     → k * r < 18446744073709551616
-product-fits {r} {k} {rows} {columns} er ek l m =
-    let h : k * r ≤ 4294967296 * r = mul-le-mul-right r (omega arith) in
-    omega arith
-
--- a product of two numbers of 32 bits has 64
-pub product-wide : {r k rows columns : ℕ} → k ≡ columns → r ≡ rows → columns < 4294967296 → rows < 4294967296
-    → k * r < 18446744073709551616
-product-wide {r} {k} {rows} {columns} ek er l m =
+product-fits {r} {k} {rows} {columns} ek er l m =
     let h : k * r ≤ 4294967295 * r = mul-le-mul-right r (omega arith) in
     omega arith
 
--- ---- what both calls test: k columns of r rows, as the code has them
+pub sum-fits : {h r : ℕ} (run : Run) → h ≡ heldOf run → r ≡ run .rows → run .columns < 4294967296
+    → run .rows < 4294967296 → h + r < 18446744073709551616
+sum-fits run eh er l m =
+    let i : run .columns * run .rows ≤ 4294967295 * run .rows = mul-le-mul-right (run .rows) (omega arith) in
+    omega arith
 
-exceeds-grid : (grid taken : ℕ) → grid < taken → (ltb grid taken || ltb 1048576 taken) ≡ true
-exceeds-grid grid taken l = simp (lt-ltb grid taken l)
+-- ---- one test after the other
 
-exceeds-limit : (grid taken : ℕ) → taken ≤ grid → 1048576 < taken → (ltb grid taken || ltb 1048576 taken) ≡ true
-exceeds-limit grid taken l m = simp (le-ltb grid taken l, lt-ltb 1048576 taken m)
+pub run-made : (run : Run) (grid : ℕ) {bad worse : Bool} {a b : Checked} → bad ≡ badRows (run .rows)
+    → worse ≡ badRecord run grid → a ≡ thenTest Good bad Rows → b ≡ thenTest a worse TakenCells
+    → b ≡ firstOf (runTests run grid)
+unfolding runTests
+run-made run grid e f ea eb = then TakenCells (make Rows ea e) eb f .answer
 
-exceeds-none : (grid taken : ℕ) → taken ≤ grid → taken ≤ 1048576 → (ltb grid taken || ltb 1048576 taken) ≡ false
-exceeds-none grid taken l m = simp (le-ltb grid taken l, le-ltb 1048576 taken m)
+-- h cells are held, and n with the column
+module _ (run : Run) (grid work : ℕ) {a b : Checked} (ea : a ≡ firstOf (runTests run grid))
+    (eb : b ≡ thenTest a (run .ended) Ended) where
+  begins : Makes (runTests run grid) a
+  begins = record { answer = ea }
 
-module _ (run : Run) (offered grid work : ℕ) where
-  pub column-rows : badRows (run .rows) ≡ true → Bad Rows ≡ columnCheck run offered grid work
-  unfolding columnCheck
-  column-rows e = simp e
+  pub column-made : (offered : ℕ) {h r : ℕ} {short : Bool} {c d e f : Checked} → h ≡ heldOf run → r ≡ run .rows
+      → short ≡ ltb work (16 * (h + r)) → c ≡ thenTest b (not (eqb offered r)) ColumnLength
+      → d ≡ thenTest c (ltb 1048576 (h + r)) Cells → e ≡ thenTest d (ltb grid (h + r)) GridFull
+      → f ≡ thenTest e short Work → f ≡ firstOf (columnTests run offered grid work)
+  unfolding columnTests runTests
+  column-made offered {h} {r} eh er es ec ed ee ef =
+      let n : h + r ≡ heldOf run + run .rows = ap₂ (λ (x y : ℕ). x + y) eh er in
+      then Work (then GridFull (then Cells (then ColumnLength (then Ended begins eb refl)
+      ec (ap (λ (k : ℕ). not (eqb offered k)) er)) ed (ap (λ (k : ℕ). ltb 1048576 k) n)) ee
+      (ap (λ (k : ℕ). ltb grid k) n)) ef (es ∙ ap (λ (k : ℕ). ltb work (16 * k)) n) .answer
 
-  pub end-rows : badRows (run .rows) ≡ true → Bad Rows ≡ endCheck run grid work
-  unfolding endCheck
-  end-rows e = simp e
+  pub end-made : {h : ℕ} {short : Bool} {c : Checked} → h ≡ heldOf run → short ≡ ltb work (16 * h)
+      → c ≡ thenTest b short Work → c ≡ firstOf (endTests run grid work)
+  unfolding endTests runTests
+  end-made eh es ec =
+      then Work (then Ended begins eb refl) ec (es ∙ ap (λ (k : ℕ). ltb work (16 * k)) eh) .answer
 
-  module _ (rows : badRows (run .rows) ≡ false) {r k : ℕ} (er : r ≡ run .rows) (ek : k ≡ run .columns) where
-    taken-is : k * r ≡ takenOf run
-    taken-is = ap₂ (λ (x y : ℕ). x * y) ek er
+-- ---- none applies
 
-    taken-grid : grid < k * r → (ltb grid (takenOf run) || ltb 1048576 (takenOf run)) ≡ true
-    taken-grid l = exceeds-grid grid (takenOf run) (let e = taken-is in omega arith)
+pub column-passed : (run : Run) (offered grid work : ℕ) → firstOf (columnTests run offered grid work) ≡ Good
+    → GoodColumn run offered grid work
+unfolding columnTests runTests
+column-passed run offered grid work good =
+    let (a, (b, (c, (d, (e, (f, (g, u))))))) = first-passed (columnTests run offered grid work) good in
+    let (some, few) = rows-known (run .rows) a in
+    record {
+      good = good;
+      some = omega arith;
+      few = few;
+      whole = eqb-true offered (run .rows) (not-false (eqb offered (run .rows)) d);
+      cells = ltb-false 1048576 (heldOf run + run .rows) e;
+      fits = ltb-false grid (heldOf run + run .rows) f;
+      space = ltb-false work (16 * (heldOf run + run .rows)) g;
+    }
 
-    taken-limit : k * r ≤ grid → 1048576 < k * r → (ltb grid (takenOf run) || ltb 1048576 (takenOf run)) ≡ true
-    taken-limit l m = exceeds-limit grid (takenOf run) (let e = taken-is in omega arith)
-        (let e = taken-is in omega arith)
-
-    pub column-grid : grid < k * r → Bad TakenCells ≡ columnCheck run offered grid work
-    unfolding columnCheck
-    column-grid l = simp (rows, taken-grid l)
-
-    pub column-limit : k * r ≤ grid → 1048576 < k * r → Bad TakenCells ≡ columnCheck run offered grid work
-    unfolding columnCheck
-    column-limit l m = simp (rows, taken-limit l m)
-
-    pub end-grid : grid < k * r → Bad TakenCells ≡ endCheck run grid work
-    unfolding endCheck
-    end-grid l = simp (rows, taken-grid l)
-
-    pub end-limit : k * r ≤ grid → 1048576 < k * r → Bad TakenCells ≡ endCheck run grid work
-    unfolding endCheck
-    end-limit l m = simp (rows, taken-limit l m)
-
-    module _ (lg : k * r ≤ grid) (ll : k * r ≤ 1048576) where
-      taken-none : (ltb grid (takenOf run) || ltb 1048576 (takenOf run)) ≡ false
-      taken-none = exceeds-none grid (takenOf run) (let e = taken-is in omega arith) (let e = taken-is in omega arith)
-
-      pub column-ended : run .ended ≡ true → Bad Ended ≡ columnCheck run offered grid work
-      unfolding columnCheck
-      column-ended e = simp (rows, taken-none, e)
-
-      pub end-ended : run .ended ≡ true → Bad Ended ≡ endCheck run grid work
-      unfolding endCheck
-      end-ended e = simp (rows, taken-none, e)
-
-      module _ (going : run .ended ≡ false) where
-        pub end-work : work < 16 * (k * r) → Bad Work ≡ endCheck run grid work
-        unfolding endCheck
-        end-work l = simp (rows, taken-none, going, lt-ltb work (16 * takenOf run) (let e = taken-is in omega arith))
-
-        pub end-fine : 16 * (k * r) ≤ work → Good ≡ endCheck run grid work
-        unfolding endCheck
-        end-fine l = simp (rows, taken-none, going, le-ltb work (16 * takenOf run) (let e = taken-is in omega arith))
-
-        pub column-length : (offered ≡ r → ⊥) → Bad ColumnLength ≡ columnCheck run offered grid work
-        unfolding columnCheck
-        column-length d = simp (rows, taken-none, going, ne-eqb offered (run .rows) (λ e. d (e ∙ sym er)))
-
-        module _ (fits : offered ≡ r) where
-          same : eqb offered (run .rows) ≡ true
-          same = eq-eqb offered (run .rows) (fits ∙ er)
-
-          sum-is : k * r + r ≡ takenOf run + run .rows
-          sum-is = ap₂ (λ (x y : ℕ). x + y) taken-is er
-
-          pub column-cells : 1048576 < k * r + r → Bad Cells ≡ columnCheck run offered grid work
-          unfolding columnCheck
-          column-cells l = simp
-              (rows, taken-none, going, same, lt-ltb 1048576 (takenOf run + run .rows) (let e = sum-is in omega arith))
-
-          module _ (few : k * r + r ≤ 1048576) where
-            few-is : ltb 1048576 (takenOf run + run .rows) ≡ false
-            few-is = le-ltb 1048576 (takenOf run + run .rows) (let e = sum-is in omega arith)
-
-            pub column-full : grid < k * r + r → Bad GridFull ≡ columnCheck run offered grid work
-            unfolding columnCheck
-            column-full l = simp (
-              rows,
-              taken-none,
-              going,
-              same,
-              few-is,
-              lt-ltb grid (takenOf run + run .rows)
-                  (let e = sum-is in omega arith),
-            )
-
-            module _ (room : k * r + r ≤ grid) where
-              room-is : ltb grid (takenOf run + run .rows) ≡ false
-              room-is = le-ltb grid (takenOf run + run .rows) (let e = sum-is in omega arith)
-
-              pub column-work : work < 16 * (k * r + r) → Bad Work ≡ columnCheck run offered grid work
-              unfolding columnCheck
-              column-work l = simp (
-                rows,
-                taken-none,
-                going,
-                same,
-                few-is,
-                room-is,
-                lt-ltb work (16 * (takenOf run + run .rows)) (let e = sum-is in omega arith),
-              )
-
-              pub column-fine : 16 * (k * r + r) ≤ work → Good ≡ columnCheck run offered grid work
-              unfolding columnCheck
-              column-fine l = simp (
-                rows,
-                taken-none,
-                going,
-                same,
-                few-is,
-                room-is,
-                le-ltb work (16 * (takenOf run + run .rows)) (let e = sum-is in omega arith),
-              )
+pub end-passed : (run : Run) (grid work : ℕ) → firstOf (endTests run grid work) ≡ Good → GoodEnd run grid work
+unfolding endTests runTests
+end-passed run grid work good =
+    let (a, (b, (c, (d, u)))) = first-passed (endTests run grid work) good in
+    let (some, few) = rows-known (run .rows) a in
+    let (x, y) = or-false (ltb grid (heldOf run)) (ltb 1048576 (heldOf run)) b in
+    record {
+      good = good;
+      some = omega arith;
+      few = few;
+      cells = ltb-false 1048576 (heldOf run) y;
+      fits = ltb-false grid (heldOf run) x;
+      space = ltb-false work (16 * heldOf run) d;
+    }

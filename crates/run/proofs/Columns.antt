@@ -1,106 +1,43 @@
--- Column and End once their tests have passed: the answer, the record, the grid and what stands in the work area.
---     column-passed, end-passed     what the tests say when all have passed
+-- Column and End once their tests have passed, and where one refuses: the record, the grid and what stands in the work
+-- area. `held` and `r` are the cells held and the rows as the code has them.
 --     copied                        the copy of a column
---     column-short, column-count    the promise where the table is too short, and where it isn't; end-short, end-count
---     column-refused, end-refused   the promise where a test failed
+--     column-loading, -surveying    what the calls below ask; end-loading, end-surveying
+--     column-made, end-made         the promise of a call that does its work
+--     column-refused, end-refused   the promise of one that a test refuses
 -- Assumes nothing.
 use mathlib.Core.Path.{_≡_, refl, sym, _∙_, ap, ap₂, subst, subst₂, fun-ext}
-use mathlib.Core.Bool.{Bool, true, false, not, _||_}
-use mathlib.Core.List.{List, _++_, map}
-use Prim.Native.Nat.{ℕ, suc, _+_, _-_, _*_, _≤_, _<_}
-use native.Mathlib.Nat.{suc-mul}
+use mathlib.Core.List.{List, _++_}
+use Prim.Native.Nat.{ℕ, suc, _+_, _*_, _≤_, _<_}
+use native.Mathlib.Nat.{suc-mul, mul-one, mul-le-mul-left}
 use native.Mathlib.Numerals.{add-one}
 use native.Mathlib.Omega.{arith}
-use lib.Dec.{eqb, ltb}
 use lib.IntN.{ℤ}
 use lib.ListN.{length, take, getD, set, length-take}
-use lib.Seq.{paste, paste-suc, take-paste, take-length, take-take}
-use borrow.Author.Tests.{eqb-true, ltb-false, lt-ltb, le-ltb, not-false}
+use lib.Seq.{paste, paste-suc, length-paste, take-paste, take-length, take-take}
 use Rattle.relief.specs.Heights.{levels}
+use Rattle.relief.specs.Peaks.{Entry}
 use Rattle.relief.specs.Runs.{Stage, Batch, Rest, Closing, Remaining}
-use Rattle.relief.specs.Plane.{planeOf, touchOf, stageOf}
+use Rattle.relief.specs.Plane.{Shape, planeOf, touchOf, newestOf, stageOf}
 use Rattle.relief.specs.Inner.{cut}
-use Rattle.relief.proofs.Tests.{split, le-or-lt, or-false}
+use Rattle.relief.proofs.Tests.{split, le-or-lt}
 use Rattle.relief.proofs.BatchSurvey.{surveyBatch, surveyRest, survey-batch, survey-rest}
-use Rattle.relief.proofs.Plane.{plane?}
-use Rattle.relief.proofs.PlaneRun.{levels-end, levels-take, plane-staged}
+use Rattle.relief.proofs.Levels.{levels-end, levels-take, cut-below, cut-behind}
+use Rattle.relief.proofs.Shapes.{touch?, stage-staged}
 use Rattle.record.specs.declared.Refusal.{Refusal}
-use Rattle.record.specs.declared.Refusal.the-variants.{Table}
-use Rattle.record.specs.Records.{recordOf}
-use Rattle.record.specs.Refusals.{badRows}
-use Rattle.record.proofs.Refusals.{rows-known}
-use Rattle.record.specs.declared.Handed.the-variants.{Count, Refused}
+use Rattle.record.specs.declared.Checked.{Checked}
+use Rattle.record.specs.declared.Checked.the-variants.{Good, Bad}
+use Rattle.record.specs.declared.Handed.{Handed}
+use Rattle.record.specs.declared.Handed.the-variants.{Refused}
+use Rattle.record.specs.Refusals.{firstOf}
 use Rattle.area.specs.Area.{levelIn}
-use Rattle.sweep.proofs.Work.{cut-below, cut-behind}
-use Rattle.table.specs.Inner.{Standing, recordsIn}
-use Rattle.table.proofs.Handed.{refused-count, count-same, unused-early, unused-short, unused-count}
-use Rattle.survey.specs.Answers.{entriesIn, Loaded, Answered, stageIn}
+use Rattle.table.specs.Inner.{roomAnswer}
+use Rattle.table.proofs.Handed.{worked-late, flat-refused, flat-made}
+use Rattle.survey.specs.Answers.{entriesIn, Loading, Loaded, Surveying, Answered, stageIn}
 use Rattle.survey.proofs.Records.{places-record, places-length}
 use Rattle.run.specs.declared.Run.{Run}
-use Rattle.run.specs.declared.Checked.{Checked}
-use Rattle.run.specs.declared.Checked.the-variants.{Good, Bad}
-use Rattle.run.specs.Running.{
-  handedAnswer,
-  takenOf,
-  heightsWith,
-  columnCheck,
-  endCheck,
-  columnGrid,
-  GoodColumn,
-  GoodEnd,
-  FlatColumn,
-  FlatEnd,
-}
-
--- ---- what passed tests say
-
-bad-good : {r : Refusal} → Bad r ≡ Good → ⊥
-bad-good e = let z : _≡_ {A = ℕ} 0 1 = cc in omega arith
-
--- a test that would have refused failed
-pass : (b : Bool) {r : Refusal} → (b ≡ true → Bad r ≡ Good) → b ≡ false
-pass true f = absurd (bad-good (f refl))
-pass false f = refl
-
-module _ (run : Run) (offered grid work : ℕ) where
-  pub column-passed : Good ≡ columnCheck run offered grid work → GoodColumn run offered grid work
-  unfolding columnCheck
-  column-passed e =
-      let a = pass (badRows (run .rows)) (λ z. simp z at (sym e)) in
-      let b = pass (ltb grid (takenOf run) || ltb 1048576 (takenOf run)) (λ z. simp (a, z) at (sym e)) in
-      let c = pass (run .ended) (λ z. simp (a, b, z) at (sym e)) in
-      let d = pass (not (eqb offered (run .rows))) (λ z. simp (a, b, c, z) at (sym e)) in
-      let f = pass (ltb 1048576 (takenOf run + run .rows)) (λ z. simp (a, b, c, d, z) at (sym e)) in
-      let g = pass (ltb grid (takenOf run + run .rows)) (λ z. simp (a, b, c, d, f, z) at (sym e)) in
-      let h = pass (ltb work (16 * (takenOf run + run .rows))) (λ z. simp (a, b, c, d, f, g, z) at (sym e)) in
-      let (i, j) = rows-known (run .rows) a in
-      record {
-        good = sym e;
-        some = omega arith;
-        few = j;
-        whole = eqb-true offered (run .rows) (not-false (eqb offered (run .rows)) d);
-        cells = ltb-false 1048576 (takenOf run + run .rows) f;
-        fits = ltb-false grid (takenOf run + run .rows) g;
-        space = ltb-false work (16 * (takenOf run + run .rows)) h;
-      }
-
-  pub end-passed : Good ≡ endCheck run grid work → GoodEnd run grid work
-  unfolding endCheck
-  end-passed e =
-      let a = pass (badRows (run .rows)) (λ z. simp z at (sym e)) in
-      let b = pass (ltb grid (takenOf run) || ltb 1048576 (takenOf run)) (λ z. simp (a, z) at (sym e)) in
-      let c = pass (run .ended) (λ z. simp (a, b, z) at (sym e)) in
-      let h = pass (ltb work (16 * takenOf run)) (λ z. simp (a, b, c, z) at (sym e)) in
-      let (i, j) = rows-known (run .rows) a in
-      let (x, y) = or-false (ltb grid (takenOf run)) (ltb 1048576 (takenOf run)) b in
-      record {
-        good = sym e;
-        some = omega arith;
-        few = j;
-        cells = ltb-false 1048576 (takenOf run) y;
-        fits = ltb-false grid (takenOf run) x;
-        space = ltb-false work (16 * takenOf run) h;
-      }
+use Rattle.run.specs.Promises.{shapeOf, heldOf, columnTests, endTests, columnGrid, columnRun, endRun}
+use Rattle.run.specs.Promises.{heightsWith, ColumnBatch, EndRest}
+use Rattle.run.specs.Inner.{ColumnsFlat, EndsFlat, GoodColumn, GoodEnd}
 
 -- ---- the copy of a column
 
@@ -131,168 +68,173 @@ stage-is : (rows columns : ℕ) (whole : List ℤ) {s t : List ℕ} {heights : L
 stage-is rows columns whole h l e = λ i. record {
   level = (loaded-stage h l ∙ ap levels e) i;
   cells = columns * rows;
-  newest = columns * rows - rows;
+  newest = newestOf (planeOf rows) (columns * rows);
 }
 
--- ---- the answers
+-- ---- a test refuses
 
-answer-bad : {c : Checked} {r : Refusal} (room k : ℕ) → Bad r ≡ c → Refused r ≡ handedAnswer c room k
-answer-bad room k e = ap (λ (c : Checked). handedAnswer c room k) e
-
-answer-short : {c : Checked} {room k m : ℕ} → c ≡ Good → m ≡ k → room < k → Refused (Table m) ≡ handedAnswer c room k
-answer-short {c} {room} {k} e f l = rw (e, f) (simp (lt-ltb room k l))
-
-answer-count : {c : Checked} {room k m : ℕ} → c ≡ Good → m ≡ k → k ≤ room → Count m ≡ handedAnswer c room k
-answer-count {c} {room} {k} e f l = rw (e, f) (simp (le-ltb room k l))
-
-module _ (run : Run) (column grid : List ℤ) (work : List ℕ) (room : ℕ) (left : List ℕ) where
+module _ (run : Run) (column grid : List ℤ) (room : ℕ) (work : List ℕ) where
   abbrev whole : List ℤ
   whole = heightsWith run column grid
 
-  pub column-refused : {r : Refusal} → left ≡ work
-      → Bad r ≡ columnCheck run (length column) (length grid) (length work)
-      → FlatColumn run column grid grid work room left run (Refused r)
-  column-refused same e = record {
-    batch = surveyBatch (plane? (run .rows)) (stageOf (planeOf (run .rows)) (run .columns) whole)
-        (stageOf (planeOf (run .rows)) (suc (run .columns)) whole) (run .threshold);
-    right = survey-batch (plane-staged (run .rows) (run .columns) whole)
-        (plane-staged (run .rows) (suc (run .columns)) whole) (run .threshold);
-    answered = answer-bad room _ e;
+  pub column-refused : {left : List ℕ} {r : Refusal}
+      → firstOf (columnTests run (length column) (length grid) (length work)) ≡ Bad r → left ≡ work
+      → ColumnsFlat run column grid grid work room left run (Refused r)
+  column-refused bad same = record {
+    hands = flat-refused (columnTests run (length column) (length grid) (length work))
+        (surveyBatch (touch? (shapeOf run)) (stageOf (shapeOf run) (run .columns) whole)
+        (stageOf (shapeOf run) (suc (run .columns)) whole) (run .threshold))
+        (survey-batch (stage-staged (shapeOf run) (run .columns) whole)
+        (stage-staged (shapeOf run) (suc (run .columns)) whole) (run .threshold)) bad same;
     run-after = refl;
-    grid-after = ap (λ (c : Checked). columnGrid c run column grid) e;
-    counted = λ n q. absurd (refused-count q);
-    records = λ n q. absurd (refused-count q);
-    unused = unused-early same;
+    grid-after = ap (λ (c : Checked). columnGrid c run column grid) (sym bad);
   }
 
-  pub end-refused : {r : Refusal} → left ≡ work → Bad r ≡ endCheck run (length grid) (length work)
-      → FlatEnd run grid work room left run (Refused r)
-  end-refused same e = record {
-    rest = surveyRest (plane? (run .rows)) (stageOf (planeOf (run .rows)) (run .columns) grid) (run .threshold);
-    right = survey-rest (plane-staged (run .rows) (run .columns) grid) (run .threshold);
-    answered = answer-bad room _ e;
+  pub end-refused : {left : List ℕ} {r : Refusal} → firstOf (endTests run (length grid) (length work)) ≡ Bad r → left ≡ work
+      → EndsFlat run grid work room left run (Refused r)
+  end-refused bad same = record {
+    hands = flat-refused (endTests run (length grid) (length work))
+        (surveyRest (touch? (shapeOf run)) (stageOf (shapeOf run) (run .columns) grid) (run .threshold))
+        (survey-rest (stage-staged (shapeOf run) (run .columns) grid) (run .threshold)) bad same;
     run-after = refl;
-    counted = λ n q. absurd (refused-count q);
-    records = λ n q. absurd (refused-count q);
-    unused = unused-early same;
   }
 
-  -- ---- Column
+-- ---- Column
 
-  module _ (g : GoodColumn run (length column) (length grid) (length work)) {s t : List ℕ} {k : ℕ}
-      (loaded : Loaded s t (paste grid (takenOf run) column (length column)) (takenOf run + run .rows))
-      (made : Answered t left (takenOf run + run .rows)
-      (Closing (touchOf (planeOf (run .rows))) (stageIn t (takenOf run) (run .rows))
-      (stageIn t (takenOf run + run .rows) (run .rows)) (run .threshold)) k) where
-    copy : List ℤ
-    copy = paste grid (takenOf run) column (length column)
+-- the cells with the column
+abbrev with : Run → ℕ
+with run = heldOf run + run .rows
+
+module _ (run : Run) (column grid : List ℤ) (work : List ℕ)
+    (g : GoodColumn run (length column) (length grid) (length work)) {held r : ℕ} (eh : held ≡ heldOf run)
+    (er : r ≡ run .rows) where
+  pub column-copying : held + length column ≤ length grid
+  column-copying = let h = g .fits in let i = g .whole in omega arith
+
+  pub column-loading : {copy : List ℤ} → copy ≡ paste grid held column (length column)
+      → Loading work copy (held + r)
+  column-loading e =
+      let l = ap length e ∙ length-paste grid held column (length column) column-copying (omega arith) in
+      let f = g .fits in
+      record {
+        area = record { few = let c = g .cells in omega arith; room = let s = g .space in omega arith };
+        all = omega arith;
+      }
+
+  pub column-surveying : {t : List ℕ} {heights : List ℤ} → Loaded work t heights (held + r)
+      → Surveying t (held + r) r × (held ≤ held + r)
+  column-surveying h = (
+    record {
+      area = record {
+        few = let c = g .cells in omega arith;
+        room = let s = g .space in let l = h .len in omega arith;
+      };
+      rows-some = let i = g .some in omega arith;
+      rows-few = let i = g .few in omega arith;
+    },
+    omega arith,
+  )
+
+  pub column-few : {s t : List ℕ} {P : Entry → Type 0} {k : ℕ} → Answered s t (held + r) P k → k < 4294967296
+  column-few h = let i = h .counted .few in let c = g .cells in omega arith
+
+  pub columns-fit : run .columns + 1 < 4294967296
+  columns-fit =
+      let h : run .columns * 1 ≤ run .columns * run .rows = mul-le-mul-left (run .columns) (g .some) in
+      let e = mul-one (run .columns) in
+      let c = g .cells in
+      omega arith
+
+  module _ (room : ℕ) {left t : List ℕ} {copy : List ℤ} {k : ℕ} (ec : copy ≡ paste grid held column (length column))
+      (loaded : Loaded work t copy (held + r))
+      (made : Answered t left (held + r)
+      (Closing (touchOf (planeOf r)) (stageIn t held r) (stageIn t (held + r) r) (run .threshold)) k) where
+    paste-is : copy ≡ paste grid (heldOf run) column (length column)
+    paste-is = ec ∙ ap (λ (x : ℕ). paste grid x column (length column)) eh
 
     -- the first cells of the grid with the column are the taken ones with the column
-    copy-whole : take (takenOf run + run .rows) copy ≡ whole
-    unfolding copy
+    copy-whole : take (with run) copy ≡ heightsWith run column grid
     copy-whole =
         let l = g .fits in
-        ap (λ (m : ℕ). take (takenOf run + m) (paste grid (takenOf run) column (length column))) (sym (g .whole))
-        ∙ take-paste grid (takenOf run) column (length column) (omega arith) (omega arith)
-        ∙ ap (λ (c : List ℤ). take (takenOf run) grid ++ c) (take-length column)
+        ap₂ (λ (m : ℕ) (c : List ℤ). take (heldOf run + m) c) (sym (g .whole)) paste-is
+        ∙ take-paste grid (heldOf run) column (length column) (omega arith) (omega arith)
+        ∙ ap (λ (c : List ℤ). take (heldOf run) grid ++ c) (take-length column)
 
-    copy-take : (m : ℕ) → m ≤ takenOf run + run .rows → take m copy ≡ take m whole
-    copy-take m l = sym (take-take m (takenOf run + run .rows) copy l) ∙ ap (take m) copy-whole
+    copy-take : (m : ℕ) → m ≤ with run → take m copy ≡ take m (heightsWith run column grid)
+    copy-take m l = sym (take-take m (with run) copy l) ∙ ap (take m) copy-whole
 
-    stage-before : stageIn t (takenOf run) (run .rows) ≡ stageOf (planeOf (run .rows)) (run .columns) whole
-    unfolding copy
-    stage-before = stage-is (run .rows) (run .columns) whole loaded (omega arith)
-        (copy-take (takenOf run) (omega arith))
+    loaded-is : Loaded work t copy (with run)
+    loaded-is = subst (Loaded work t copy) (ap₂ (λ (x y : ℕ). x + y) eh er) loaded
 
-    stage-after : stageIn t (takenOf run + run .rows) (run .rows) ≡ stageOf (planeOf (run .rows)) (suc (run .columns)) whole
-    unfolding copy
+    stage-before : stageIn t (heldOf run) (run .rows)
+        ≡ stageOf (shapeOf run) (run .columns) (heightsWith run column grid)
+    stage-before = stage-is (run .rows) (run .columns) (heightsWith run column grid) loaded-is (omega arith)
+        (copy-take (heldOf run) (omega arith))
+
+    stage-after : stageIn t (with run) (run .rows)
+        ≡ stageOf (shapeOf run) (suc (run .columns)) (heightsWith run column grid)
     stage-after =
         let e = suc-mul (run .columns) (run .rows) in
         ap (λ (m : ℕ). stageIn t m (run .rows)) (sym e)
-        ∙ stage-is (run .rows) (suc (run .columns)) whole loaded (omega arith)
+        ∙ stage-is (run .rows) (suc (run .columns)) (heightsWith run column grid) loaded-is (omega arith)
         (copy-take (suc (run .columns) * run .rows) (omega arith))
 
-    batch-right : Batch (touchOf (planeOf (run .rows))) (stageOf (planeOf (run .rows)) (run .columns) whole)
-        (stageOf (planeOf (run .rows)) (suc (run .columns)) whole)
-        (run .threshold) (entriesIn left (takenOf run + run .rows) k)
-    batch-right =
-        subst₂ (λ (a b : Stage). Batch (touchOf (planeOf (run .rows))) a b (run .threshold)
-        (entriesIn left (takenOf run + run .rows) k))
-        stage-before stage-after (made .order)
+    made-is : Answered t left (with run) (Closing (touchOf (shapeOf run)) (stageIn t (heldOf run) (run .rows))
+        (stageIn t (with run) (run .rows)) (run .threshold)) k
+    made-is = rw (er, eh) at made
 
-    batch-length : length (entriesIn left (takenOf run + run .rows) k) ≡ k
-    batch-length = places-length _ k
-
-    pub column-short : {m : ℕ} → m ≡ k → room < k
-        → FlatColumn run column grid (paste grid (takenOf run) column (length column)) work room left run
-        (Refused (Table m))
-    column-short e l = record {
-      batch = entriesIn left (takenOf run + run .rows) k;
-      right = batch-right;
-      answered = answer-short (g .good) (e ∙ sym batch-length) (let f = batch-length in omega arith);
-      run-after = refl;
-      grid-after = ap (λ (c : Checked). columnGrid c run column grid) (sym (g .good));
-      counted = λ n q. absurd (refused-count q);
-      records = λ n q. absurd (refused-count q);
-      unused = unused-short;
+    pub column-made : {a : Handed} {run′ : Run} → a ≡ roomAnswer room k → run′ ≡ columnRun a run
+        → ColumnsFlat run column grid copy work room left run′ a
+    column-made ea ra = record {
+      hands = flat-made (columnTests run (length column) (length grid) (length work)) (entriesIn left (with run) k)
+          (subst₂ (λ (x y : Stage). Batch (touchOf (shapeOf run)) x y (run .threshold) (entriesIn left (with run) k))
+          stage-before stage-after (made-is .order)) (g .good)
+          (worked-late (g .good) (made-is .len ∙ loaded .len) (λ i l. made-is .beyond i l ∙ loaded-is .beyond i l))
+          (sym (places-length _ k)) (made-is .counted) (places-record left (with run) k) ea;
+      run-after = ra;
+      grid-after = paste-is ∙ ap (λ (c : Checked). columnGrid c run column grid) (sym (g .good));
     }
 
-    pub column-count : {m : ℕ} → m ≡ k → k ≤ room
-        → FlatColumn run column grid (paste grid (takenOf run) column (length column)) work room left
-        (record { rows = run .rows; columns = run .columns + 1; threshold = run .threshold; ended = run .ended })
-        (Count m)
-    column-count e l = record {
-      batch = entriesIn left (takenOf run + run .rows) k;
-      right = batch-right;
-      answered = answer-count (g .good) (e ∙ sym batch-length) (let f = batch-length in omega arith);
-      run-after = refl;
-      grid-after = ap (λ (c : Checked). columnGrid c run column grid) (sym (g .good));
-      counted = λ n q. let f = sym e ∙ count-same q in
-          (subst (Standing left (takenOf run + run .rows)) f (made .counted), subst (λ (x : ℕ). x ≤ room) f l);
-      records = λ n q. let f = sym e ∙ count-same q in
-          subst (λ (x : ℕ). recordsIn left (takenOf run + run .rows) x ≡ map recordOf
-          (entriesIn left (takenOf run + run .rows) k)) f
-          (places-record left (takenOf run + run .rows) k);
-      unused = unused-count;
-    }
+-- ---- End
 
-  -- ---- End
+module _ (run : Run) (grid : List ℤ) (work : List ℕ) (g : GoodEnd run (length grid) (length work)) {held : ℕ}
+    (eh : held ≡ heldOf run) where
+  pub end-loading : Loading work grid held
+  end-loading = record {
+    area = record { few = let c = g .cells in omega arith; room = let s = g .space in omega arith };
+    all = let f = g .fits in omega arith;
+  }
 
-  module _ (g : GoodEnd run (length grid) (length work)) {s t : List ℕ} {k : ℕ} (loaded : Loaded s t grid (takenOf run))
-      (made : Answered t left (takenOf run)
-      (Remaining (touchOf (planeOf (run .rows))) (stageIn t (takenOf run) (run .rows)) (run .threshold)) k) where
-    rest-right : Rest (touchOf (planeOf (run .rows))) (stageOf (planeOf (run .rows)) (run .columns) grid) (run .threshold)
-        (entriesIn left (takenOf run) k)
-    rest-right =
-        subst (λ (a : Stage). Rest (touchOf (planeOf (run .rows))) a (run .threshold) (entriesIn left (takenOf run) k))
-        (stage-is (run .rows) (run .columns) grid loaded (omega arith) refl) (made .order)
+  pub end-surveying : {t : List ℕ} {heights : List ℤ} {r : ℕ} → Loaded work t heights held → r ≡ run .rows → Surveying t held r
+  end-surveying h er = record {
+    area = record {
+      few = let c = g .cells in omega arith;
+      room = let s = g .space in let l = h .len in omega arith;
+    };
+    rows-some = let i = g .some in omega arith;
+    rows-few = let i = g .few in omega arith;
+  }
 
-    rest-length : length (entriesIn left (takenOf run) k) ≡ k
-    rest-length = places-length _ k
+  pub end-few : {s t : List ℕ} {P : Entry → Type 0} {k : ℕ} → Answered s t held P k → k < 4294967296
+  end-few h = let i = h .counted .few in let c = g .cells in omega arith
 
-    pub end-short : {m : ℕ} → m ≡ k → room < k → FlatEnd run grid work room left run (Refused (Table m))
-    end-short e l = record {
-      rest = entriesIn left (takenOf run) k;
-      right = rest-right;
-      answered = answer-short (g .good) (e ∙ sym rest-length) (let f = rest-length in omega arith);
-      run-after = refl;
-      counted = λ n q. absurd (refused-count q);
-      records = λ n q. absurd (refused-count q);
-      unused = unused-short;
-    }
+  module _ (room : ℕ) {left t : List ℕ} {k r : ℕ} (er : r ≡ run .rows) (loaded : Loaded work t grid held)
+      (made : Answered t left held (Remaining (touchOf (planeOf r)) (stageIn t held r) (run .threshold)) k) where
+    loaded-held : Loaded work t grid (heldOf run)
+    loaded-held = subst (Loaded work t grid) eh loaded
 
-    pub end-count : {m : ℕ} → m ≡ k → k ≤ room
-        → FlatEnd run grid work room left
-        (record { rows = run .rows; columns = run .columns; threshold = run .threshold; ended = true }) (Count m)
-    end-count e l = record {
-      rest = entriesIn left (takenOf run) k;
-      right = rest-right;
-      answered = answer-count (g .good) (e ∙ sym rest-length) (let f = rest-length in omega arith);
-      run-after = refl;
-      counted = λ n q. let f = sym e ∙ count-same q in
-          (subst (Standing left (takenOf run)) f (made .counted), subst (λ (x : ℕ). x ≤ room) f l);
-      records = λ n q. let f = sym e ∙ count-same q in
-          subst (λ (x : ℕ). recordsIn left (takenOf run) x ≡ map recordOf (entriesIn left (takenOf run) k)) f
-          (places-record left (takenOf run) k);
-      unused = unused-count;
+    made-held : Answered t left (heldOf run)
+        (Remaining (touchOf (shapeOf run)) (stageIn t (heldOf run) (run .rows)) (run .threshold)) k
+    made-held = rw (er, eh) at made
+
+    pub end-made : {a : Handed} {run′ : Run} → a ≡ roomAnswer room k → run′ ≡ endRun a run
+        → EndsFlat run grid work room left run′ a
+    end-made ea ra = record {
+      hands = flat-made (endTests run (length grid) (length work)) (entriesIn left (heldOf run) k)
+          (subst (λ (x : Stage). Rest (touchOf (shapeOf run)) x (run .threshold) (entriesIn left (heldOf run) k))
+          (stage-is (run .rows) (run .columns) grid loaded-held (omega arith) refl) (made-held .order)) (g .good)
+          (worked-late (g .good) (made-held .len ∙ loaded .len)
+          (λ i l. made-held .beyond i l ∙ loaded-held .beyond i l))
+          (sym (places-length _ k)) (made-held .counted) (places-record left (heldOf run) k) ea;
+      run-after = ra;
     }

@@ -1,8 +1,8 @@
 pub mod Checks
 pub mod Columns
-pub mod Coded
 pub mod Rows
 pub mod Values
-pub mod TakenCall
+pub mod HeldCall
+pub mod Outcomes
 pub mod WholeRun
 pub mod Claims

@@ -14,58 +14,44 @@ use Rattle.record.specs.declared.Peak.{Peak}
 use Rattle.record.specs.declared.Handed.{Handed}
 use Rattle.record.specs.declared.Handed.the-variants.{Count}
 use Rattle.table.specs.Inner.{recordsIn, Fillable, countIn, cellsRead}
-use Rattle.table.proofs.Handed.{handed-fillable, handed-filled}
+use Rattle.table.proofs.Handed.{flat-fillable, flat-hands}
 use Rattle.run.specs.declared.Run.{Run}
-use Rattle.run.specs.Running.{takenOf, columnRun, endRun}
-use Rattle.run.specs.Running.{Columns, Ends, FlatColumn, FlatEnd}
-
--- ---- the cells that a run record counts after a call
-
-end-taken : (run : Run) {after : Run} (a : Handed) → after ≡ endRun a run → (n : ℕ) → a ≡ Count n
-    → takenOf after ≡ takenOf run
-end-taken run a e n q = ap takenOf (e ∙ ap (λ (x : Handed). endRun x run) q)
-
-column-taken : (run : Run) {after : Run} (a : Handed) → after ≡ columnRun a run → (n : ℕ) → a ≡ Count n
-    → takenOf after ≡ takenOf run + run .rows
-column-taken run a e n q =
-    ap takenOf (e ∙ ap (λ (x : Handed). columnRun x run) q) ∙ ap (λ (k : ℕ). k * run .rows) (add-one (run .columns))
-    ∙ suc-mul (run .columns) (run .rows)
+use Rattle.run.specs.Promises.{heldOf, columnRun, endRun, Columns, Ends}
+use Rattle.run.specs.Inner.{ColumnsFlat, EndsFlat}
 
 -- ---- End
 
 module _ {run : Run} {grid : List ℤ} {work : List ℕ} (table : List Peak) {left : List ℕ} {after : Run} {a : Handed}
-    (h : FlatEnd run grid work (length table) left after a) where
-  pub end-fillable : Fillable table left (cellsRead a (takenOf after)) (countIn a)
-  end-fillable = handed-fillable table left a (end-taken run a (h .run-after)) (h .counted)
+    (h : EndsFlat run grid work (length table) left after a) where
+  -- the cells that the record counts after the call
+  end-held : (n : ℕ) → a ≡ Count n → heldOf after ≡ heldOf run
+  end-held n q = ap heldOf (h .run-after ∙ ap (λ (x : Handed). endRun x run) q)
+
+  pub end-fillable : Fillable table left (cellsRead a (heldOf after)) (countIn a)
+  end-fillable = flat-fillable table a end-held (h .hands)
 
   pub end-filled : {t : List Peak}
-      → t ≡ recordsIn left (cellsRead a (takenOf after)) (countIn a) ++ drop (countIn a) table
+      → t ≡ recordsIn left (cellsRead a (heldOf after)) (countIn a) ++ drop (countIn a) table
       → Ends run grid work left table t after a
-  end-filled e = record {
-    rest = h .rest;
-    right = h .right;
-    answered = h .answered;
-    run-after = h .run-after;
-    filled = e ∙ handed-filled table left a (end-taken run a (h .run-after)) (h .records);
-    unused = h .unused;
-  }
+  end-filled e = record { hands = flat-hands table a end-held (h .hands) e; run-after = h .run-after }
 
 -- ---- Column
 
 module _ {run : Run} {column grid grid′ : List ℤ} {work : List ℕ} (table : List Peak) {left : List ℕ} {after : Run}
-    {a : Handed} (h : FlatColumn run column grid grid′ work (length table) left after a) where
-  pub column-fillable : Fillable table left (cellsRead a (takenOf after)) (countIn a)
-  column-fillable = handed-fillable table left a (column-taken run a (h .run-after)) (h .counted)
+    {a : Handed} (h : ColumnsFlat run column grid grid′ work (length table) left after a) where
+  column-held : (n : ℕ) → a ≡ Count n → heldOf after ≡ heldOf run + run .rows
+  column-held n q =
+      ap heldOf (h .run-after ∙ ap (λ (x : Handed). columnRun x run) q)
+      ∙ ap (λ (k : ℕ). k * run .rows) (add-one (run .columns)) ∙ suc-mul (run .columns) (run .rows)
+
+  pub column-fillable : Fillable table left (cellsRead a (heldOf after)) (countIn a)
+  column-fillable = flat-fillable table a column-held (h .hands)
 
   pub column-filled : {t : List Peak}
-      → t ≡ recordsIn left (cellsRead a (takenOf after)) (countIn a) ++ drop (countIn a) table
+      → t ≡ recordsIn left (cellsRead a (heldOf after)) (countIn a) ++ drop (countIn a) table
       → Columns run column grid grid′ work left table t after a
   column-filled e = record {
-    batch = h .batch;
-    right = h .right;
-    answered = h .answered;
+    hands = flat-hands table a column-held (h .hands) e;
     run-after = h .run-after;
     grid-after = h .grid-after;
-    filled = e ∙ handed-filled table left a (column-taken run a (h .run-after)) (h .records);
-    unused = h .unused;
   }

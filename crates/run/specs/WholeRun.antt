@@ -9,8 +9,8 @@ use Prim.Native.Nat.{ℕ, suc, _<_}
 use lib.IntN.{ℤ}
 use lib.ListN.{length, take, getD}
 use Rattle.relief.specs.Heights.{levels}
-use Rattle.relief.specs.Peaks.{Entry, Member, ListOf}
-use Rattle.relief.specs.Runs.{Batch, Alike, Among, passCellOf}
+use Rattle.relief.specs.Peaks.{Entry, passCellOf, Member, Among, ListOf}
+use Rattle.relief.specs.Runs.{Batch}
 use Rattle.relief.specs.Plane.{Shape, touchOf, stageOf}
 use Rattle.record.specs.declared.Peak.{Peak}
 use Rattle.record.specs.declared.Refusal.{Refusal}
@@ -44,7 +44,7 @@ pub record HoldsList (shape : Shape) (T : ℕ) (cells : List ℤ) (batches : Lis
   pub hold : (l : List Entry) → ListOf (touchOf shape) (levels cells) T l → (e : Entry)
       → Among e l ↔ (((j : ℕ) × (j < length batches) × Among e (getD batches j [])) ⊎ Among e rest)
   pub pass : (l : List Entry) → ListOf (touchOf shape) (levels cells) T l → (d e : Entry) → Member e l
-      → ((j : ℕ) × (j < length batches) × Member d (getD batches j [])) ⊎ Member d rest → Alike d e
+      → ((j : ℕ) × (j < length batches) × Member d (getD batches j [])) ⊎ Member d rest → d .cell ≡ e .cell
       → passCellOf (d .key) ≡ passCellOf (e .key)
   pub once : (i j : ℕ) (e e′ : Entry) → i < j → j < length batches → Member e (getD batches i [])
       → Member e′ (getD batches j []) → e .cell ≡ e′ .cell → ⊥

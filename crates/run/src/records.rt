@@ -19,7 +19,7 @@ pub fn start_record(rows: u32, threshold: u32) -> Run
 
 // The cells of a run that its grid holds. Two numbers of 32 bits have a product of 64.
 pub fn held_cells(run: Run) -> usize
-    ensures { λ r. ⌜ (r ≡ heldOf run) × (r < 18446744065119617026) ⌝ }
+    ensures { λ r. ⌜ r ≡ heldOf run ⌝ }
 {
     words::index(run.columns) * words::index(run.rows)
 }

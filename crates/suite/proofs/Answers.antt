@@ -18,8 +18,7 @@ use Rattle.relief.specs.Peaks.{Listed}
 use Rattle.relief.specs.Plane.{planeOf, touchOf}
 use Rattle.relief.specs.Inner.{cut}
 use Rattle.relief.proofs.Survey.{survey, survey-list}
-use Rattle.relief.proofs.Plane.{plane?}
-use Rattle.relief.proofs.PlaneRun.{plane-terrain}
+use Rattle.relief.proofs.Shapes.{touch?, shape-terrain}
 use Rattle.record.specs.declared.Peak.{Peak}
 use Rattle.record.proofs.Refusals.{rows-none, rows-many, rows-right}
 use Rattle.area.specs.Area.{levelIn}
@@ -40,10 +39,10 @@ module _ (rows : ℕ) (heights : List ℕ) (T : ℕ) (work table : List ℕ) whe
       → SuiteLists rows heights T work work table table (negsuc k)
   refused-early e =
       let hs = heightsOf heights (length heights / 4) in
-      let list = survey (plane? rows) (levels hs) (length hs) T in
+      let list = survey (touch? (planeOf rows)) (levels hs) (length hs) T in
       record {
         list = list;
-        right = survey-list (plane-terrain rows hs) T;
+        right = survey-list (shape-terrain (planeOf rows) hs) T;
         answered = e (length list);
         filled = refl;
         unused = λ n q l. refl;

@@ -4,6 +4,7 @@
 --     flat-refused, flat-made           the promise of a flat call that a test refuses, and of one that does its work
 --     standing-none                     no record of no cell can be read
 --     flat-fillable, flat-hands         what it leaves may be filled into the row, and keeps the whole call's promise
+--     told-passed                       a call that hands out records passed its tests
 --     hands-unique, flat-unique         one outcome, where just one list is right
 -- Assumes nothing.
 use mathlib.Core.Path.{_≡_, refl, sym, _∙_, ap, ap₂, subst, subst₂}
@@ -24,7 +25,7 @@ use Rattle.record.specs.declared.Checked.{Checked}
 use Rattle.record.specs.declared.Checked.the-variants.{Good, Bad}
 use Rattle.record.specs.Records.{recordOf}
 use Rattle.record.specs.Refusals.{granted, checkedTold, firstOf, handedTold}
-use Rattle.record.proofs.Refusals.{handed-differ}
+use Rattle.record.proofs.Refusals.{told-refused, handed-differ}
 use Rattle.record.proofs.Tests.{bad-not-good, first-end, first-bad}
 use Rattle.table.specs.Promises.{handedBy, tableAfter, Worked, Hands}
 use Rattle.table.specs.Inner.{Standing, recordsIn, Fillable, roomAnswer, countIn, cellsRead, HandsFlat}
@@ -160,6 +161,18 @@ module _ {tests : List (Bool × Refusal)} {cells : ℕ} {Right : List Entry → 
     filled = q ∙ after a e h;
     worked = h .worked;
   }
+
+-- ---- a call that hands out records
+
+pub told-passed : (tests : List (Bool × Refusal)) (room needed n : ℕ)
+    → handedTold (Count n) ≡ handedBy tests room needed → firstOf tests ≡ Good
+told-passed tests room needed n told = go (firstOf tests) refl
+  where
+    go : (c : Checked) → firstOf tests ≡ c → c ≡ Good
+    go Good e = refl
+    go (Bad r) e = told-refused r (n ∷ []) (sym (told
+        ∙ ap (λ (c : Checked). checkedTold c (granted (needed ∷ [])))
+        (first-bad tests (ltb room needed) (Table needed) e)))
 
 -- ---- one outcome
 

@@ -21,7 +21,7 @@ use mir.Syntax.{w32}
 use mir.Val.{toZ, ofZ, SFits}
 use mir.ValLaws.{toZ-ofZ}
 use Rattle.relief.specs.Heights.{levelOf, heightOf}
-use Rattle.relief.proofs.PlaneRun.{heightOf-level}
+use Rattle.relief.proofs.Levels.{heightOf-level}
 use Rattle.record.specs.declared.Peak.{Peak}
 use Rattle.record.specs.Records.{withKey, withoutKey}
 use Rattle.record.proofs.Levels.{level-injective}

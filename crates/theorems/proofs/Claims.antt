@@ -1,13 +1,15 @@
 -- A proof of each claim of `specs/Claims.antt`, from the laws of `relief`. Assumes nothing.
 use mathlib.Core.Path.{_≡_, refl}
 use mathlib.Core.Bool.{Bool, true, false}
-use mathlib.Core.List.{List}
-use Prim.Native.Nat.{ℕ, suc, _≤_, _<_}
+use mathlib.Core.List.{List, _++_}
+use Prim.Native.Nat.{ℕ, suc, _+_, _*_, _≤_, _<_}
 use native.Mathlib.Nat.{mod-lt}
 use native.Mathlib.Omega.{arith}
+use lib.Seq.{take-append-le}
 use Rattle.relief.specs.Heights.{heightOf}
 use Rattle.relief.specs.Peaks.{Key, missing, key, Entry, Wanted, KeyOf, Listed}
 use Rattle.relief.specs.Runs.{Stage, Further}
+use Rattle.relief.specs.Plane.{Shape, touchOf}
 use Rattle.relief.specs.Inner.{Decides}
 use Rattle.relief.proofs.Tests.{split, true-not-false, le-or-lt, lt-decides}
 use Rattle.relief.proofs.Ways.{way-end, way-step, path-of-way}
@@ -19,7 +21,8 @@ use Rattle.relief.proofs.Survey.{peak-key, survey-list}
 use Rattle.relief.proofs.Closed as Closing
 use Rattle.relief.proofs.Batches as Growing
 use Rattle.relief.proofs.Plane as Plane
-use Rattle.relief.proofs.PlaneRun.{plane-growing, heightOf-level, plane-open}
+use Rattle.relief.proofs.Levels.{heightOf-level}
+use Rattle.relief.proofs.Shapes.{touch-decides, touch-symmetric, stage-further, run-grows, stage-open-changes}
 use Rattle.theorems.specs.Claims.{Touching, OfGrid, Handing, OfHanding, Claims}
 use Rattle.theorems.proofs.Grids.{marked-follow}
 
@@ -31,9 +34,17 @@ yes-decides : {A : Type 0} (d : Dec A) → Decides A (isYes d)
 yes-decides (yes a) = record { holds = λ e. a; fails = λ e. true-not-false refl e }
 yes-decides (no n) = record { holds = λ e. true-not-false e refl; fails = λ e. n }
 
-decided : {A : Type 0} {b : Bool} → Decides A b → Dec A
+pub decided : {A : Type 0} {b : Bool} → Decides A b → Dec A
 decided {b = true} d = yes (d .holds refl)
 decided {b = false} d = no (d .fails refl)
+
+-- How the cells of a shape touch is symmetric, and told by a test.
+abbrev pub shape-touching : Shape → Touching
+shape-touching shape = record {
+  touch = touchOf shape;
+  symmetric = touch-symmetric shape;
+  told = λ a b. decided (touch-decides shape a b);
+}
 
 touching-terrain : (t : Touching) (level : ℕ → ℕ) (n : ℕ) → ((c : ℕ) → n ≤ c → level c ≡ 0)
     → Terrain (t .touch) (λ a b. isYes (t .told a b)) level n
@@ -122,6 +133,8 @@ of-handing t stage columns T batch rest r =
           (r .batches);
       rest-once = λ i e e′. Growing.rest-once (t .symmetric) told (r .grows) T batch columns i e e′ rest
           (r .batches) (r .ended);
+      batches-pass = λ l h. Growing.batches-pass (t .symmetric) told (r .grows) T batch columns rest l
+          (r .batches) (r .ended) h;
     }
 
 -- ---- all of them
@@ -134,7 +147,7 @@ claims = record {
   plane-told = λ rows a b. decided (Plane.plane-decides rows a b);
   plane-eight = λ rows c. (Plane.around rows c, Plane.plane-eight rows c);
   plane-fence = Plane.plane-fence;
-  plane-grows = plane-growing;
+  run-grows = run-grows;
   grid = λ t level n ends. of-grid (touching-terrain t level n ends);
   order-unique = λ P l m h h′. Listing.order-unique l m h h′;
   closed-exactly = λ touch s e h. (
@@ -143,12 +156,17 @@ claims = record {
   );
   closed-stays = λ t s s′ f. Closing.closed-stays (before t f) (after t f) f;
   closed-island = λ t s s′ f. Closing.closed-island (before t f) (after t f) f;
-  open-can-change = λ rows columns heights e whole o l.
+  closed-further = λ shape columns k heights more e l.
+      let t = shape-touching shape in
+      let f = stage-further shape columns (columns + k) heights (heights ++ more) (omega arith)
+      (take-append-le (columns * shape .rows) heights more l) in
+      Closing.closed-stays (before t f) (after t f) f e;
+  open-can-change = λ shape columns heights e whole o l.
       let (h, m) = heightOf-level (suc (e .level)) (omega arith) in (
         heightOf (suc (e .level)),
         m,
         omega arith,
-        plane-open rows columns heights whole (heightOf (suc (e .level))) e o (omega arith),
+        stage-open-changes shape columns heights whole (heightOf (suc (e .level))) e o (omega arith),
       );
   handing = of-handing;
   marked-follow = marked-follow;

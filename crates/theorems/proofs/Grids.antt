@@ -14,12 +14,11 @@ use borrow.Author.Tests.{eqb-true}
 use Rattle.relief.specs.Heights.{levelOf, levels}
 use Rattle.relief.specs.Peaks.{Key, missing, key, Entry, ListOf}
 use Rattle.relief.specs.Runs.{Batch, Rest}
-use Rattle.relief.specs.Plane.{Plane, planeOf, stageOf}
+use Rattle.relief.specs.Plane.{Shape, planeOf, touchOf, stageOf}
 use Rattle.relief.proofs.Tests.{true-not-false, and-true}
 use Rattle.relief.proofs.Survey.{peak?, better?, joined?, keyLevel, entryAt, listed?, survey, survey-list}
 use Rattle.relief.proofs.BatchSurvey.{closed?, surveyRest, surveyBatch, survey-rest, survey-batch}
-use Rattle.relief.proofs.Plane.{plane?}
-use Rattle.relief.proofs.PlaneRun.{plane-terrain, plane-staged}
+use Rattle.relief.proofs.Shapes.{touch?, shape-terrain, stage-staged}
 use Rattle.theorems.specs.Grids.{Example, grid, run, HandedOut, Follow, marked}
 
 -- ---- tests of equality
@@ -64,47 +63,47 @@ same-equal (x ∷ l) (y ∷ m) e =
 
 -- ---- the test of an example
 
-abbrev agreesFrom : ℕ → ℕ → List ℤ → ℕ → List (List Entry) → List Entry → Bool
-agreesFrom rows T heights j [] rest =
-    eqb (j * rows) (length heights) && same (surveyRest (plane? rows) (stageOf (planeOf rows) j heights) T) rest
-agreesFrom rows T heights j (batch ∷ batches) rest =
-    same (surveyBatch (plane? rows) (stageOf (planeOf rows) j heights) (stageOf (planeOf rows) (suc j) heights) T) batch
-    && agreesFrom rows T heights (suc j) batches rest
+abbrev agreesFrom : Shape → ℕ → List ℤ → ℕ → List (List Entry) → List Entry → Bool
+agreesFrom shape T heights j [] rest =
+    eqb (j * shape .rows) (length heights) && same (surveyRest (touch? shape) (stageOf shape j heights) T) rest
+agreesFrom shape T heights j (batch ∷ batches) rest =
+    same (surveyBatch (touch? shape) (stageOf shape j heights) (stageOf shape (suc j) heights) T) batch
+    && agreesFrom shape T heights (suc j) batches rest
 
 abbrev agrees : Example → Bool
-agrees (grid rows T heights list) = same (survey (plane? rows) (levels heights) (length heights) T) list
-agrees (run rows T heights batches rest) = agreesFrom rows T heights 0 batches rest
+agrees (grid rows T heights list) = same (survey (touch? (planeOf rows)) (levels heights) (length heights) T) list
+agrees (run rows T heights batches rest) = agreesFrom (planeOf rows) T heights 0 batches rest
 
 abbrev all : List Example → Bool
 all [] = true
 all (x ∷ xs) = agrees x && all xs
 
-follows-from : (rows T : ℕ) (heights : List ℤ) (j : ℕ) (batches : List (List Entry)) (rest : List Entry)
-    → agreesFrom rows T heights j batches rest ≡ true → HandedOut rows T heights j batches rest
-follows-from rows T heights j [] rest e =
-    let (h, i) = and-true (eqb (j * rows) (length heights)) _ e in (
-      eqb-true (j * rows) (length heights) h,
-      subst (Rest (Plane rows) (stageOf (planeOf rows) j heights) T) (same-equal _ rest i)
-          (survey-rest (plane-staged rows j heights) T),
+follows-from : (shape : Shape) (T : ℕ) (heights : List ℤ) (j : ℕ) (batches : List (List Entry)) (rest : List Entry)
+    → agreesFrom shape T heights j batches rest ≡ true → HandedOut shape T heights j batches rest
+follows-from shape T heights j [] rest e =
+    let (h, i) = and-true (eqb (j * shape .rows) (length heights)) _ e in (
+      eqb-true (j * shape .rows) (length heights) h,
+      subst (Rest (touchOf shape) (stageOf shape j heights) T) (same-equal _ rest i)
+          (survey-rest (stage-staged shape j heights) T),
     )
-follows-from rows T heights j (batch ∷ batches) rest e =
-    let (h, i) = and-true _ (agreesFrom rows T heights (suc j) batches rest) e in (
-      subst (Batch (Plane rows) (stageOf (planeOf rows) j heights) (stageOf (planeOf rows) (suc j) heights) T) (same-equal _ batch h)
-          (survey-batch (plane-staged rows j heights) (plane-staged rows (suc j) heights) T),
-      follows-from rows T heights (suc j) batches rest i,
+follows-from shape T heights j (batch ∷ batches) rest e =
+    let (h, i) = and-true _ (agreesFrom shape T heights (suc j) batches rest) e in (
+      subst (Batch (touchOf shape) (stageOf shape j heights) (stageOf shape (suc j) heights) T) (same-equal _ batch h)
+          (survey-batch (stage-staged shape j heights) (stage-staged shape (suc j) heights) T),
+      follows-from shape T heights (suc j) batches rest i,
     )
 
 follow : (xs : List Example) → all xs ≡ true → Follow xs
 follow [] e = tt
 follow (grid rows T heights list ∷ xs) e =
     let (h, i) = and-true (agrees (grid rows T heights list)) (all xs) e in (
-      subst (ListOf (Plane rows) (levels heights) T) (same-equal _ list h)
-          (survey-list (plane-terrain rows heights) T),
+      subst (ListOf (touchOf (planeOf rows)) (levels heights) T) (same-equal _ list h)
+          (survey-list (shape-terrain (planeOf rows) heights) T),
       follow xs i,
     )
 follow (run rows T heights batches rest ∷ xs) e =
-    let (h, i) = and-true (agreesFrom rows T heights 0 batches rest) (all xs) e in
-    (follows-from rows T heights 0 batches rest h, follow xs i)
+    let (h, i) = and-true (agreesFrom (planeOf rows) T heights 0 batches rest) (all xs) e in
+    (follows-from (planeOf rows) T heights 0 batches rest h, follow xs i)
 
 pub marked-follow : Follow marked
 unfolding marked levels levelOf peak? better? joined? keyLevel entryAt closed? listed? survey surveyRest surveyBatch

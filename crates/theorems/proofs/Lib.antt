@@ -1,2 +1,2 @@
-pub mod Grids
-pub mod Claims
+pub mod Grids  -- the marked grids, by one computation
+pub mod Claims  -- a proof of each claim

@@ -4,9 +4,9 @@ use Prim.Native.Nat.{ℕ, suc, _+_, _-_, _*_, _≤_, _<_}
 use lib.{IntN.ℤ, ListN.length, ListN.replicate, Signed.mag}
 use Rattle.relief.specs.Heights.{levelOf}
 use Rattle.relief.specs.Peaks.{Way, least, Path, Peak, Outranks, KeyHeight, NoKey, Island, PassCell, Entry}
-use Rattle.relief.specs.Peaks.{floorOf, prominence, Member, InReadingOrder, PeakEntry, ListOf}
-use Rattle.relief.specs.Runs.{Stage, Closed, Open, Batch, Rest, Further, Growing, KeyKept}
-use Rattle.relief.specs.Plane.{rowOf, columnOf, Plane, planeOf, stageOf}
+use Rattle.relief.specs.Peaks.{floorOf, passCellOf, prominence, Member, Among, InReadingOrder, PeakEntry, ListOf}
+use Rattle.relief.specs.Runs.{Stage, Closed, Open, Batch, Rest, Further, Growing, StaysClosed}
+use Rattle.relief.specs.Plane.{rowOf, columnOf, Plane, Shape, touchOf, stageOf}
 use Rattle.theorems.specs.Grids.{Follow, marked}
 
 -- A symmetric way of touching that a test tells.
@@ -54,11 +54,15 @@ module _ (touch : ℕ → ℕ → Type 0) (stage : ℕ → Stage) (columns T : �
   pub record OfHanding : Type 0 where
     -- "The batches from start to end hold just the whole run's list, ..
     pub batches-hold : (l : List Entry) → ListOf touch (stage columns .level) T l → (e : Entry)
-        → Member e l ↔ (((j : ℕ) × (j < columns) × Member e (batch j)) ⊎ Member e rest)
+        → Among e l ↔ (((j : ℕ) × (j < columns) × Among e (batch j)) ⊎ Among e rest)
     -- .. each peak once."
     pub batches-once : (i j : ℕ) (e e′ : Entry) → i < j → j < columns → Member e (batch i) → Member e′ (batch j)
         → e .cell ≡ e′ .cell → ⊥
     pub rest-once : (i : ℕ) (e e′ : Entry) → i < columns → Member e (batch i) → Member e′ rest → e .cell ≡ e′ .cell → ⊥
+    -- What was handed out of a peak has the pass cell that the list has.
+    pub batches-pass : (l : List Entry) → ListOf touch (stage columns .level) T l → (d e : Entry) → Member e l
+        → ((j : ℕ) × (j < columns) × Member d (batch j)) ⊎ Member d rest
+        → d .cell ≡ e .cell → passCellOf (d .key) ≡ passCellOf (e .key)
 
 pub record Claims : Type 1 where
   -- "Cell number = column x rows + row."
@@ -70,8 +74,8 @@ pub record Claims : Type 1 where
   pub plane-eight : (rows c : ℕ) → (eight : ℕ → ℕ) × ((d : ℕ) → Plane rows c d → (i : ℕ) × (i < 8) × (d ≡ eight i))
   -- The fence: a cell before the last column touches no cell of a further column.
   pub plane-fence : (rows columns a d : ℕ) → a < columns * rows - rows → columns * rows ≤ d → Plane rows a d → ⊥
-  -- A run of heights in the plane is a growing run.
-  pub plane-grows : (rows : ℕ) (heights : List ℤ) → Growing (Plane rows) (λ j. stageOf (planeOf rows) j heights)
+  -- A run of heights of any shape is a growing run.
+  pub run-grows : (shape : Shape) (heights : List ℤ) → Growing (touchOf shape) (λ j. stageOf shape j heights)
   pub grid : (t : Touching) (level : ℕ → ℕ) (n : ℕ) → ((c : ℕ) → n ≤ c → level c ≡ 0) → OfGrid (t .touch) level
   -- Two lists, two batches, or two rests that the definition allows are equal.
   pub order-unique : (P : Entry → Type 0) (l m : List Entry) → InReadingOrder P l → InReadingOrder P m → l ≡ m
@@ -80,18 +84,24 @@ pub record Claims : Type 1 where
   pub closed-exactly : (touch : ℕ → ℕ → Type 0) (s : Stage) (e : Entry) → PeakEntry touch (s .level) e
       → Closed touch s e
       ↔ ((c : ℕ) → s .newest ≤ c → Way touch (λ d. floorOf (e .key) < s .level d) (e .cell) c → ⊥)
-  -- "No further columns change a closed peak's cell, height, key height or pass cell": the entry stays, and closed.
+  -- "No further columns change a closed peak's cell, height, key height or pass cell", and it stays closed: ..
   pub closed-stays : (t : Touching) (s s′ : Stage) → Further (t .touch) s s′ → (e : Entry) → Closed (t .touch) s e
-      → Closed (t .touch) s′ e
+      → StaysClosed (t .touch) s′ e
+  -- .. and so for any number of columns, of any heights.
+  pub closed-further : (shape : Shape) (columns k : ℕ) (heights more : List ℤ) (e : Entry)
+      → columns * shape .rows ≤ length heights → Closed (touchOf shape) (stageOf shape columns heights) e
+      → StaysClosed (touchOf shape) (stageOf shape (columns + k) (heights ++ more)) e
   pub closed-island : (t : Touching) (s s′ : Stage) → Further (t .touch) s s′ → (e : Entry) → Closed (t .touch) s e
       → (c : ℕ) → Island (t .touch) (s .level) (e .cell) (floorOf (e .key)) c
       ↔ Island (t .touch) (s′ .level) (e .cell) (floorOf (e .key)) c
   -- "for an open one below the greatest legal height some further column would change its key height or unmake it": one
-  -- of a single legal height.
-  pub open-can-change : (rows columns : ℕ) (heights : List ℤ) (e : Entry) → length heights ≡ columns * rows
-      → Open (Plane rows) (stageOf (planeOf rows) columns heights) e → e .level < 4294967295
-      → (z : ℤ) × (mag z < 2147483648) × (0 < levelOf z)
-      × (KeyKept (Plane rows) (stageOf (planeOf rows) (suc columns) (heights ++ replicate rows z)) e → ⊥)
+  -- of a single legal height, after which no peak of this cell has this key height, or as e none.
+  pub open-can-change : (shape : Shape) (columns : ℕ) (heights : List ℤ) (e : Entry)
+      → length heights ≡ columns * shape .rows
+      → Open (touchOf shape) (stageOf shape columns heights) e → e .level < 4294967295
+      → (z : ℤ) × (mag z < 2147483648) × (0 < levelOf z) × ((d : Entry)
+      → PeakEntry (touchOf shape) (stageOf shape (suc columns) (heights ++ replicate (shape .rows) z) .level) d
+      → d .cell ≡ e .cell → floorOf (d .key) ≡ floorOf (e .key) → ⊥)
   pub handing : (t : Touching) (stage : ℕ → Stage) (columns T : ℕ) (batch : ℕ → List Entry) (rest : List Entry)
       → Handing (t .touch) stage columns T batch rest → OfHanding (t .touch) stage columns T batch rest
   -- "The ten grids marked * below are shown to follow from the definitions"

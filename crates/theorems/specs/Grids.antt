@@ -4,7 +4,7 @@ use Prim.Native.Nat.{ℕ, suc, _*_}
 use lib.{IntN.ℤ, IntN.pos, IntN.negsuc, ListN.length}
 use Rattle.relief.specs.Heights.{BLANK, levelOf, levels}
 use Rattle.relief.specs.Peaks.{missing, key, Entry, ListOf}
-use Rattle.relief.specs.{Runs.Batch, Runs.Rest, Plane.Plane, Plane.planeOf, Plane.stageOf}
+use Rattle.relief.specs.{Runs.Batch, Runs.Rest, Plane.Shape, Plane.planeOf, Plane.touchOf, Plane.stageOf}
 
 -- "records as cell, height, key, pass; "-" is missing"
 abbrev pub lone : ℕ → ℤ → Entry
@@ -19,17 +19,18 @@ pub data Example : Type 0 where
   run : (rows T : ℕ) (heights : List ℤ) (batches : List (List Entry)) (rest : List Entry) → Example
 
 -- The columns after the first j, offered one by one, hand out these batches, and End after them the rest.
-abbrev pub HandedOut : ℕ → ℕ → List ℤ → ℕ → List (List Entry) → List Entry → Type 0
-HandedOut rows T heights j [] rest = (j * rows ≡ length heights) × Rest (Plane rows) (stageOf (planeOf rows) j heights) T rest
-HandedOut rows T heights j (batch ∷ batches) rest =
-    Batch (Plane rows) (stageOf (planeOf rows) j heights) (stageOf (planeOf rows) (suc j) heights) T batch
-    × HandedOut rows T heights (suc j) batches rest
+abbrev pub HandedOut : Shape → ℕ → List ℤ → ℕ → List (List Entry) → List Entry → Type 0
+HandedOut shape T heights j [] rest =
+    (j * shape .rows ≡ length heights) × Rest (touchOf shape) (stageOf shape j heights) T rest
+HandedOut shape T heights j (batch ∷ batches) rest =
+    Batch (touchOf shape) (stageOf shape j heights) (stageOf shape (suc j) heights) T batch
+    × HandedOut shape T heights (suc j) batches rest
 
 -- Each example is as the definitions say.
 abbrev pub Follow : List Example → Type 0
 Follow [] = Unit {0}
-Follow (grid rows T heights list ∷ xs) = ListOf (Plane rows) (levels heights) T list × Follow xs
-Follow (run rows T heights batches rest ∷ xs) = HandedOut rows T heights 0 batches rest × Follow xs
+Follow (grid rows T heights list ∷ xs) = ListOf (touchOf (planeOf rows)) (levels heights) T list × Follow xs
+Follow (run rows T heights batches rest ∷ xs) = HandedOut (planeOf rows) T heights 0 batches rest × Follow xs
 
 unfoldable pub marked : List Example
 marked =

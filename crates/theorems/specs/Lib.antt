@@ -1,2 +1,2 @@
-pub mod Grids
-pub mod Claims
+pub mod Grids  -- the marked grids, as one table
+pub mod Claims  -- what is claimed of the definitions

@@ -53,17 +53,17 @@ use Rattle.table.proofs.cells_of.Symbol.{name as #table·cells-of}
 use Rattle.table.proofs.count_of.Symbol.{name as #table·count-of}
 use Rattle.run.specs.declared.Run.{Run}
 use Rattle.run.specs.declared.Step.{Step}
-use Rattle.run.specs.Running.{takenOf}
+use Rattle.run.specs.Promises.{heldOf}
 use Rattle.run.proofs.end.Proof.CallsFlat.{FlatCall, flat-known, Left, calls-flat}
 use Rattle.run.proofs.Rows.{end-fillable, end-filled}
 use Rattle.run.proofs.Values.{runVal, stepVal, step-is, run-is, handed-is, run-typed, step-typed, handed-typed}
-use Rattle.run.proofs.TakenCall.{TakenCells, taken-known, calls-taken}
+use Rattle.run.proofs.HeldCall.{HeldCells, held-known, calls-held}
 use Rattle.run.proofs.Run as N
 use Rattle.run.proofs.Run.Laws as N′
 use Rattle.run.proofs.Step as U
 use Rattle.run.proofs.Step.Laws as U′
 use Rattle.run.proofs.end_flat.Symbol.{name as #run·end-flat}
-use Rattle.run.proofs.taken_cells.Symbol.{name as #run·taken-cells}
+use Rattle.run.proofs.records.held_cells.Symbol.{name as #run·held-cells}
 use Rattle.run.proofs.end.Key.{name as #run·end}
 use Rattle.run.proofs.end as ends
 use Rattle.run.proofs.end.Statement as stated
@@ -126,7 +126,7 @@ module _ {M : Type 1} (𝓤 : URA M) (H : Heap 𝓤) (A : Atoms 𝓤) (W : Given
 
   -- how many cells the work area has numbers of
   abbrev n : Step → ℕ
-  n r = cellsRead (r .handed) (takenOf (r .run))
+  n r = cellsRead (r .handed) (heldOf (r .run))
 
   -- ---- the end
   exits : (r : Step) (u : Val) → Is U.the-row r (u ∷ []) → (zs : List ℕ) → Left ru (g .now) ys room r zs
@@ -147,7 +147,7 @@ module _ {M : Type 1} (𝓤 : URA M) (H : Heap 𝓤) (A : Atoms 𝓤) (W : Given
 
   module _ (C : Calls 𝓤 H) (Λ : Loops 𝓤 H) (fm : FmC 𝓤 H (W .laws) C)
       (known-flat : Triple 𝓤 (C #run·end-flat) (FlatCall 𝓤 H A mem run))
-      (known-taken : Triple 𝓤 (C #run·taken-cells) (TakenCells 𝓤 H A mem run))
+      (known-held : Triple 𝓤 (C #run·held-cells) (HeldCells 𝓤 H A mem run))
       (known-cells : Triple 𝓤 (C #table·cells-of) (CellsOf 𝓤 H A mem run))
       (known-count : Triple 𝓤 (C #table·count-of) (CountOf 𝓤 H A mem run))
       (known-fill : Triple 𝓤 (C #table·fill) (Fill 𝓤 H A mem run)) where
@@ -192,10 +192,10 @@ module _ {M : Type 1} (𝓤 : URA M) (H : Heap 𝓤) (A : Atoms 𝓤) (W : Given
         (from ! (stop !)) (init ! (loc 6 7) refl (run-typed 𝓤 H A W (r .run) (run-is r is))) $
         assigns ! (of-opd ! (load ! (from ! (fld ! refl (stop !))) (look-in ! (loc 6 6) (sub ! 1 refl (whole !)))))
         (from ! (stop !)) (init ! (loc 6 8) refl (handed-typed 𝓤 H A W r is)) $
-        calls-taken 𝓤 H A W mem run (r .run) _ (run-is r is) ! fm known-taken
+        calls-held 𝓤 H A W mem run (r .run) _ (run-is r is) ! fm known-held
         (and-then ! (copied ! (loc 7 7) refl) (no-more !)) (λ c-fits.
         land ! (from ! (stop !)) (init ! (loc 6 13) refl (tt, record { fits = c-fits })) $
-        calls-cells 𝓤 H A W mem run (r .handed) _ (handed-is r is) ! fm known-cells (takenOf (r .run)) c-fits
+        calls-cells 𝓤 H A W mem run (r .handed) _ (handed-is r is) ! fm known-cells (heldOf (r .run)) c-fits
         (and-then ! (copied ! (loc 7 8) refl) (and-then ! (copied ! (loc 7 13) refl) (no-more !))) (λ n-fits.
         land ! (from ! (stop !)) (init ! (loc 6 9) refl (tt, record { fits = n-fits })) $
         calls-count 𝓤 H A W mem run (r .handed) _ (handed-is r is) ! fm known-count
@@ -234,7 +234,7 @@ module _ {M : Type 1} (𝓤 : URA M) (H : Heap 𝓤) (A : Atoms 𝓤) (W : Given
 
 module _ {M : Type 1} (𝓤 : URA M) (H : Heap 𝓤) (A : Atoms 𝓤) (W : Given 𝓤 H A) (mem : Memory → SProp 𝓤)
     (run : Routine → Fun 𝓤) (𝓣 : Tables 𝓤 H) (known-flat : Triple 𝓤 (𝓣 .C #run·end-flat) (FlatCall 𝓤 H A mem run))
-    (known-taken : Triple 𝓤 (𝓣 .C #run·taken-cells) (TakenCells 𝓤 H A mem run))
+    (known-held : Triple 𝓤 (𝓣 .C #run·held-cells) (HeldCells 𝓤 H A mem run))
     (known-cells : Triple 𝓤 (𝓣 .C #table·cells-of) (CellsOf 𝓤 H A mem run))
     (known-count : Triple 𝓤 (𝓣 .C #table·count-of) (CountOf 𝓤 H A mem run))
     (known-fill : Triple 𝓤 (𝓣 .C #table·fill) (Fill 𝓤 H A mem run)) where
@@ -253,7 +253,7 @@ module _ {M : Type 1} (𝓤 : URA M) (H : Heap 𝓤) (A : Atoms 𝓤) (W : Given
       (walk 𝓤 H A W mem run (κs .0) (κs .1 .0) (κs .1 .1 .0) (qs .0) (qs .1 .0) (qs .1 .1 .0) (a .0) (a .1 .0)
       (a .1 .1 .0 .ptr .0) (a .1 .1 .0 .ptr .1) (a .1 .1 .0 .name) (a .1 .1 .0 .now) (a .1 .1 .1 .0)
       (are .0) (are .1 .0 .0 .1) (are .1 .1 .0 .0 .1) (are .1 .1 .1 .0 .0 .1)
-      (𝓣 .C) (𝓣 .Λ) (fmOf 𝓤 H (W .laws) 𝓣) known-flat known-taken known-cells known-count known-fill))
+      (𝓣 .C) (𝓣 .Λ) (fmOf 𝓤 H (W .laws) 𝓣) known-flat known-held known-cells known-count known-fill))
 
   end-meets : Meets 𝓤 H A ends.signature (WpFn 𝓤 H (𝓣 .C) (𝓣 .Λ) code.function) (ends.spec 𝓤 H A mem run)
   end-meets =
@@ -275,7 +275,7 @@ end-spec 𝓤 H 𝓜 𝓖 𝓡 =
     (code.unfolded 𝓤 H 𝓜 𝓡)
     (end-meets 𝓤 H (𝓖 .A) (givenOf 𝓤 H 𝓜 𝓖) (𝓜 .mem) (𝓡 .run) (tablesOf 𝓤 H 𝓜 (tables 𝓤 H 𝓜 𝓡 code.env))
     (flat-known 𝓤 H 𝓜 𝓖 𝓡 code.env code.calls-run·end-flat)
-    (taken-known 𝓤 H 𝓜 𝓖 𝓡 code.env code.calls-run·taken-cells)
+    (held-known 𝓤 H 𝓜 𝓖 𝓡 code.env code.calls-run·records·held-cells)
     (cells-known 𝓤 H 𝓜 𝓖 𝓡 code.env code.calls-table·cells-of)
     (count-known 𝓤 H 𝓜 𝓖 𝓡 code.env code.calls-table·count-of)
     (fill-known 𝓤 H 𝓜 𝓖 𝓡 code.env code.calls-table·fill))

@@ -1,76 +1,48 @@
--- `end_good`: the levels of the taken cells are loaded and surveyed; `Coded` puts the calls' promises together, with
--- and without room for the rest. Assumes nothing.
+-- `end_good`: the levels of the held cells are loaded and surveyed, and the room decides between 5 and the count.
+-- Assumes nothing.
 use mathlib.Core.Path.{refl}
-use mathlib.Core.List.{[]}
-use native.Mathlib.Omega.{arith}
 use denote.Ref.{now}
 use borrow.Author.Needs.{needs}
-use Rattle.run.proofs.Coded.{end-sum, end-loading, end-surveying, end-code-short, end-code-count}
+use Rattle.run.proofs.Columns.{end-loading, end-surveying, end-few, end-made}
 use Rattle.run.proofs.end_good.Statement.{statement}
 use Rattle.run.proofs.end_good.Tie as tie
 
-mul-taken : tie.Need-mul-taken
-mul-taken c =
-    let s = c .before .before .before in
-    let a = s .args in
-    let l =
-    end-sum (a .run) (now (a .grid)) (now (a .work)) (a .room) [] (s .pre)
-    (c .before .index .ensures) (c .index2 .ensures) in
-    record { fits = omega arith }
-
 load-requires : tie.Need-load-requires
 load-requires c κs =
-    let s = c .before .before .before .before in
+    let s = c .before .before .before in
     let a = s .args in
-    end-loading (a .run) (now (a .grid)) (now (a .work)) (a .room) [] (s .pre)
-    (c .before .before .index .ensures) (c .before .index2 .ensures) refl
+    end-loading (a .run) (now (a .grid)) (now (a .work)) (s .pre) (c .before .held-cells .ensures)
 
 rest-requires : tie.Need-rest-requires
 rest-requires c κs =
-    let at-load = c .before .before .before in
-    let at-index2 = at-load .before .before in
-    let at-index = at-index2 .before in
-    let s = at-index .before .before in
+    let at-load = c .before .before .before .before in
+    let at-held = at-load .before .before in
+    let s = at-held .before .before in
     let a = s .args in
-    end-surveying (a .run) (now (a .grid)) (now (a .work)) (a .room) [] (s .pre)
-    (at-index .index .ensures) (at-index2 .index2 .ensures) refl (at-load .load .ensures)
+    end-surveying (a .run) (now (a .grid)) (now (a .work)) (s .pre) (at-held .held-cells .ensures)
+    (at-load .load .ensures) (c .index .ensures)
+
+room-answer-requires : tie.Need-room-answer-requires
+room-answer-requires c κs =
+    let at-rest = c .before .before in
+    let at-held = at-rest .before .before .before .before .before .before .before in
+    let s = at-held .before .before in
+    let a = s .args in
+    end-few (a .run) (now (a .grid)) (now (a .work)) (s .pre) (at-held .held-cells .ensures) (at-rest .rest .ensures)
 
 returns : tie.Need-returns
 returns c =
-    let at-rest = c .before .before .before in
-    let at-load = at-rest .before .before .before .before in
-    let at-index2 = at-load .before .before in
-    let at-index = at-index2 .before in
-    let s = at-index .before .before in
+    let at-rest = c .before .before .before .before in
+    let at-load = at-rest .before .before .before .before .before in
+    let at-held = at-load .before .before in
+    let s = at-held .before .before in
     let a = s .args in
-    end-code-short (a .run) (now (a .grid)) (now (a .work)) (a .room) _ (s .pre)
-    (at-index .index .ensures) (at-index2 .index2 .ensures) (at-load .load .ensures) (at-rest .rest .ensures)
-    (c .if1 .taken)
-
-returns-2 : tie.Need-returns-2
-returns-2 c =
-    let at-rest = c .before .before .before in
-    let at-load = at-rest .before .before .before .before in
-    let at-index2 = at-load .before .before in
-    let at-index = at-index2 .before in
-    let s = at-index .before .before in
-    let a = s .args in
-    end-code-count (a .run) (now (a .grid)) (now (a .work)) (a .room) _ (s .pre)
-    (at-index .index .ensures) (at-index2 .index2 .ensures) (at-load .load .ensures) (at-rest .rest .ensures)
-    (c .if1 .left)
+    end-made (a .run) (now (a .grid)) (now (a .work)) (s .pre) (at-held .held-cells .ensures) (a .room)
+    (at-rest .before .index .ensures) (at-load .load .ensures) (at-rest .rest .ensures) (c .before .room-answer .ensures)
+    (c .after-end .ensures)
 
 pub end-good-spec : {M : Type 1} → statement M
 end-good-spec =
     tie.close
-    (tie.spec
-    (λ c κs. search needs)
-    (λ c κs. search needs)
-    mul-taken
-    load-requires
-    rest-requires
-    (λ c. search needs)
-    (λ c. search needs)
-    returns
-    (λ c. search needs)
-    (λ c. search needs)
-    returns-2)
+    (tie.spec (λ c κs. search needs) load-requires (λ c κs. search needs) rest-requires room-answer-requires
+    (λ c κs. search needs) (λ c. search needs) returns)

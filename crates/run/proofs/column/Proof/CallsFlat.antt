@@ -48,7 +48,7 @@ use denote.Triple.Walked.{says}
 use Rattle.table.proofs.LentAgain.{LentMut, lends-again, comes-back}
 use Rattle.run.specs.declared.Run.{Run}
 use Rattle.run.specs.declared.Step.{Step}
-use Rattle.run.specs.Running.{FlatColumn}
+use Rattle.run.specs.Inner.{ColumnsFlat}
 use Rattle.run.proofs.Run as N
 use Rattle.run.proofs.Run.Laws as N′
 use Rattle.run.proofs.Step as U
@@ -72,7 +72,7 @@ flat-known 𝓤 H 𝓜 𝓖 𝓡 env e =
 abbrev pub Left : Run → List ℤ → List ℤ → List ℕ → ℕ → Step → List ℤ → List ℕ → Type 0
 Left ru column grid ys room r gs zs =
     (length gs ≡ length grid) × (length zs ≡ length ys)
-    × FlatColumn ru column grid gs ys room zs (r .run) (r .handed)
+    × ColumnsFlat ru column grid gs ys room zs (r .run) (r .handed)
 
 module _ {M : Type 1} (𝓤 : URA M) (H : Heap 𝓤) (A : Atoms 𝓤) (W : Given 𝓤 H A) (mem : Memory → SProp 𝓤)
     (run : Routine → Fun 𝓤) (ru : Run) (κ₀ : Lft) (q₀ : Share) (c : RefT (List ℤ)) (κ : Lft) (q : Share)
@@ -146,7 +146,7 @@ module _ {M : Type 1} (𝓤 : URA M) (H : Heap 𝓤) (A : Atoms 𝓤) (W : Given
 
   -- what its contract says of them
   abbrev Told : Step → List ℤ → List ℕ → Type 0
-  Told r gs zs = FlatColumn ru (c .now) (g .now) gs ys room zs (r .run) (r .handed)
+  Told r gs zs = ColumnsFlat ru (c .now) (g .now) gs ys room zs (r .run) (r .handed)
 
   flat-said : (ν : ℕ) (δ : GName) (r : Step)
       → ent 𝓤 (ensured 𝓤 H A flat.ended (flat.clauses 𝓤 H A mem run) (flat-lfts ν) (flat-args δ) tt r) (ex 𝓤 (Said δ r))

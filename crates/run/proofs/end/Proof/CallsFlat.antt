@@ -47,7 +47,7 @@ use denote.Triple.Walked.{says}
 use Rattle.table.proofs.LentAgain.{LentMut, lends-again, comes-back}
 use Rattle.run.specs.declared.Run.{Run}
 use Rattle.run.specs.declared.Step.{Step}
-use Rattle.run.specs.Running.{FlatEnd}
+use Rattle.run.specs.Inner.{EndsFlat}
 use Rattle.run.proofs.Run as N
 use Rattle.run.proofs.Run.Laws as N′
 use Rattle.run.proofs.Step as U
@@ -70,7 +70,7 @@ flat-known 𝓤 H 𝓜 𝓖 𝓡 env e =
 
 abbrev pub Left : Run → List ℤ → List ℕ → ℕ → Step → List ℕ → Type 0
 Left ru grid ys room r zs =
-    (length zs ≡ length ys) × FlatEnd ru grid ys room zs (r .run) (r .handed)
+    (length zs ≡ length ys) × EndsFlat ru grid ys room zs (r .run) (r .handed)
 
 module _ {M : Type 1} (𝓤 : URA M) (H : Heap 𝓤) (A : Atoms 𝓤) (W : Given 𝓤 H A) (mem : Memory → SProp 𝓤)
     (run : Routine → Fun 𝓤) (ru : Run) (κ : Lft) (q : Share) (g : RefT (List ℤ)) (κ′ : Lft) (q′ : Share) (γ : GName)
@@ -135,9 +135,9 @@ module _ {M : Type 1} (𝓤 : URA M) (H : Heap 𝓤) (A : Atoms 𝓤) (W : Given
   flat-said ν δ r =
       qed W (some (λ (ws : Lasts flat.ended (flat-lfts ν) (flat-args δ)).
       ‵ (lasts flat.ended (flat-lfts ν) (flat-args δ) ws)
-      ⊛ raw (fact 𝓤 (FlatEnd ru (g .now) ys room (ws .1 .1 .0) (r .run) (r .handed)))) ∷ []) ∵
+      ⊛ raw (fact 𝓤 (EndsFlat ru (g .now) ys room (ws .1 .1 .0) (r .run) (r .handed)))) ∷ []) ∵
       pick ! (λ ws. split ! $ move ! (1 ∷ []) $
-      heard ! (FlatEnd ru (g .now) ys room (ws .1 .1 .0) (r .run) (r .handed)) (λ c.
+      heard ! (EndsFlat ru (g .now) ys room (ws .1 .1 .0) (r .run) (r .handed)) (λ c.
       fsplit ! $ drop ! $ fsplit ! $ drop ! $ fsplit ! $ fsplit ! $ move ! (1 ∷ []) $ feqL ! (λ l.
       show ! (Said δ r) (ws .1 .1 .0) $ says ! (l, c) $ keep ! (0 ∷ []) $ done !)))
 
