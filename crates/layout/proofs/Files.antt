@@ -1,6 +1,6 @@
 -- Laws of whole files: the numbers of a written file are where a reader looks for them, and those of a file read are
--- where a writer puts them. With `Rows` the only file that unfolds `headerOf`, `recordOf`, `numbersOf`, `fileOf` and
--- `recordIn`, but for the proofs of the functions that put and take them.
+-- where a writer puts them. With `Rows` the only file that unfolds `headerOf`, `fieldsOf`, `numbersOf`, `fileOf` and
+-- `peakFrom`, but for the proofs of the functions that put and take them.
 --     numbers-length, numbers-header, numbers-height, numbers-record    the numbers of a file
 --     file-length, file-word           its length, and a number of its bytes
 --     file-rows .. file-total          its header as a reader finds it
@@ -23,13 +23,14 @@ use Rattle.relief.specs.Heights.{BLANK}
 use Rattle.record.specs.declared.Peak.{Peak}
 use Rattle.words.specs.Words.{wordAt}
 use Rattle.words.proofs.Laws.{word-below}
-use Rattle.layout.specs.Layout.{bitsOf, signedOf, wordOf, totalOf, headerOf, recordOf, recordsOf}
+use Rattle.layout.specs.Layout.{bitsOf, signedOf, wordOf, totalOf, headerOf, fieldsOf, allFieldsOf}
 use Rattle.layout.specs.Layout.{numbersOf, fileOf, rowsIn, columnsIn, peaksIn, cellsIn, heightsIn}
-use Rattle.layout.specs.Layout.{recordIn, recordsIn}
-use Rattle.layout.specs.Sound.{Keyless, Keyed, recordAt, GridOf, SoundRow}
+use Rattle.layout.specs.Layout.{peakFrom, recordFrom, recordsFrom}
+use Rattle.sound.specs.Sound.{Keyless, Keyed, ithOf, GridOf, SoundRow}
+use Rattle.sound.proofs.Cells.{at-any}
 use Rattle.layout.proofs.Complement.{signed-bits, bits-signed}
 use Rattle.layout.proofs.Rows.{four-length, four-at, record-four, bytes-length, bytes-at, bytes-word}
-use Rattle.layout.proofs.Rows.{heights-length, heights-at, records-length, records-at, at-any}
+use Rattle.layout.proofs.Rows.{heights-length, heights-at, peaks-length, peaks-at}
 use Rattle.layout.proofs.Over.{byte-of-word}
 use Rattle.layout.proofs.ReadAnswer.{Readable}
 
@@ -52,20 +53,20 @@ module _ (rows : ℕ) (hs : List ℤ) (ps : List Peak) where
   pub numbers-length : length (numbersOf rows hs ps) ≡ 6 + length hs + 4 * length ps
   unfolding numbersOf
   numbers-length =
-      length-append (header ++ bits) (recordsOf ps)
-      ∙ omega (arith, front-length, four-length recordOf record-four ps)
+      length-append (header ++ bits) (allFieldsOf ps)
+      ∙ omega (arith, front-length, four-length fieldsOf record-four ps)
 
   pub numbers-header : (j : ℕ) → j < 6 → getD (numbersOf rows hs ps) j 0 ≡ getD header j 0
   unfolding numbersOf
   numbers-header j l =
-      List·getD-append (header ++ bits) (recordsOf ps) 0 j (omega (arith, front-length))
+      List·getD-append (header ++ bits) (allFieldsOf ps) 0 j (omega (arith, front-length))
       ∙ List·getD-append header bits 0 j (omega (arith, header-length))
 
   pub numbers-height : (i : ℕ) → i < length hs → getD (numbersOf rows hs ps) (6 + i) 0 ≡ bitsOf (getD hs i BLANK)
   unfolding numbersOf
   numbers-height i l =
       let there : i < length bits = omega (arith, length-map hs bitsOf) in
-      List·getD-append (header ++ bits) (recordsOf ps) 0 (6 + i) (omega (arith, front-length))
+      List·getD-append (header ++ bits) (allFieldsOf ps) 0 (6 + i) (omega (arith, front-length))
       ∙ ap (λ (n : ℕ). getD (header ++ bits) (n + i) 0) (sym header-length)
       ∙ getD-append-add header bits i 0
       ∙ at-any bits i 0 (bitsOf BLANK) there
@@ -73,12 +74,12 @@ module _ (rows : ℕ) (hs : List ℤ) (ps : List Peak) where
 
   pub numbers-record :
       (i r : ℕ) → i < length ps → r < 4 →
-      getD (numbersOf rows hs ps) (6 + length hs + (4 * i + r)) 0 ≡ getD (recordOf (recordAt ps i)) r 0
-  unfolding numbersOf recordAt
+      getD (numbersOf rows hs ps) (6 + length hs + (4 * i + r)) 0 ≡ getD (fieldsOf (ithOf ps i)) r 0
+  unfolding numbersOf ithOf
   numbers-record i r l k =
-      ap (λ (n : ℕ). getD ((header ++ bits) ++ recordsOf ps) (n + (4 * i + r)) 0) (sym front-length)
-      ∙ getD-append-add (header ++ bits) (recordsOf ps) (4 * i + r) 0
-      ∙ four-at recordOf record-four ps _ i r l k
+      ap (λ (n : ℕ). getD ((header ++ bits) ++ allFieldsOf ps) (n + (4 * i + r)) 0) (sym front-length)
+      ∙ getD-append-add (header ++ bits) (allFieldsOf ps) (4 * i + r) 0
+      ∙ four-at fieldsOf record-four ps _ i r l k
 
   pub file-length : length (fileOf rows hs ps) ≡ totalOf (length hs) (length ps)
   unfolding fileOf
@@ -140,26 +141,26 @@ module _ {rows : ℕ} {hs : List ℤ} (ps : List Peak) (grid : GridOf rows hs) (
       ∙ ap signedOf (numbers-height rows hs ps i h) ∙ signed-bits (grid .fit i h))
 
   -- A sound record's heights are cells', or the mark.
-  height-fits : (i : ℕ) → i < length ps → SFits w32 (recordAt ps i .height)
-  height-fits i l = let s = all i l in rw (s .holds) at (grid .fit (recordAt ps i .cell) (s .exists))
+  height-fits : (i : ℕ) → i < length ps → SFits w32 (ithOf ps i .height)
+  height-fits i l = let s = all i l in rw (s .holds) at (grid .fit (ithOf ps i .cell) (s .exists))
 
-  key-fits : (i : ℕ) → i < length ps → SFits w32 (recordAt ps i .key)
+  key-fits : (i : ℕ) → i < length ps → SFits w32 (ithOf ps i .key)
   key-fits i l = by-keys (all i l .keys)
     where
-      by-keys : Keyless (recordAt ps i) ⊎ Keyed hs (recordAt ps i) → SFits w32 (recordAt ps i .key)
+      by-keys : Keyless (ithOf ps i) ⊎ Keyed hs (ithOf ps i) → SFits w32 (ithOf ps i .key)
       by-keys (inl k) = rw (k .key) (record { sfits = omega arith })
-      by-keys (inr k) = rw (k .holds) at (grid .fit (recordAt ps i .pass) (k .exists))
+      by-keys (inr k) = rw (k .holds) at (grid .fit (ithOf ps i .pass) (k .exists))
 
   record-word :
       (i r : ℕ) → i < length ps → r < 4 →
-      wordAt file (6 + length hs + 4 * i + r) ≡ getD (recordOf (recordAt ps i)) r 0
+      wordAt file (6 + length hs + 4 * i + r) ≡ getD (fieldsOf (ithOf ps i)) r 0
   record-word i r l k =
       let place : 6 + length hs + 4 * i + r ≡ 6 + length hs + (4 * i + r) = omega arith in
       file-word rows hs ps (6 + length hs + 4 * i + r) (omega arith)
       ∙ ap (λ (n : ℕ). getD (numbersOf rows hs ps) n 0) place ∙ numbers-record rows hs ps i r l k
 
-  back-record : (i : ℕ) → i < length ps → recordIn file (length hs) i ≡ recordAt ps i
-  unfolding recordIn recordOf
+  back-record : (i : ℕ) → i < length ps → recordFrom file (length hs) i ≡ ithOf ps i
+  unfolding peakFrom fieldsOf
   back-record i l =
       let place : 6 + length hs + 4 * i + 0 ≡ 6 + length hs + 4 * i = omega arith in
       let cell = record-word i 0 l (omega arith) in
@@ -172,13 +173,13 @@ module _ {rows : ℕ} {hs : List ℤ} (ps : List Peak) (grid : GridOf rows hs) (
         signed-bits (key-fits i l),
       )
 
-  pub back-records : recordsIn file (length hs) (length ps) ≡ ps
-  unfolding recordAt
+  pub back-records : recordsFrom file (length hs) (length ps) ≡ ps
+  unfolding ithOf
   back-records =
-      ext-getD _ (recordsIn file (length hs) (length ps)) ps (records-length file (length hs) (length ps))
+      ext-getD _ (recordsFrom file (length hs) (length ps)) ps (peaks-length file (6 + length hs) (length ps))
       (λ i l.
-      let h : i < length ps = omega (arith, records-length file (length hs) (length ps)) in
-      records-at file (length hs) (length ps) i h ∙ back-record i h)
+      let h : i < length ps = omega (arith, peaks-length file (6 + length hs) (length ps)) in
+      peaks-at file (6 + length hs) (length ps) i h ∙ back-record i h)
 
 -- ---- what is read is the file of what it holds
 
@@ -188,13 +189,13 @@ module _ (f : List ℕ) (bytes : (k : ℕ) → getD f k 0 < 256) {heights table 
   hs = heightsIn f (cellsIn f)
 
   abbrev ps : List Peak
-  ps = recordsIn f (cellsIn f) (peaksIn f)
+  ps = recordsFrom f (cellsIn f) (peaksIn f)
 
   cells-are : length hs ≡ cellsIn f
   cells-are = heights-length f (cellsIn f)
 
   peaks-are : length ps ≡ peaksIn f
-  peaks-are = records-length f (cellsIn f) (peaksIn f)
+  peaks-are = peaks-length f (6 + cellsIn f) (peaksIn f)
 
   below : (i : ℕ) → wordAt f i < 4294967296
   below i = word-below f (λ k. record { fits = bytes k }) i
@@ -203,18 +204,18 @@ module _ (f : List ℕ) (bytes : (k : ℕ) → getD f k 0 < 256) {heights table 
   unfolding headerOf
   header-same zero l = refl
   header-same (suc zero) l =
-      let h : 0 < rowsIn f = omega (arith, can .some) in
+      let h : 0 < rowsIn f = omega (arith, can .whole .some) in
       ap (λ (n : ℕ). n / rowsIn f) cells-are ∙ mul-div-right (columnsIn f) h
   header-same (suc (suc zero)) l = peaks-are
-  header-same (suc (suc (suc zero))) l = sym (can .counted .heights)
+  header-same (suc (suc (suc zero))) l = sym (can .whole .counted .heights)
   header-same (suc (suc (suc (suc zero)))) l =
-      ap (λ (n : ℕ). 24 + 4 * n) cells-are ∙ sym (can .counted .records)
-  header-same (suc (suc (suc (suc (suc zero))))) l = omega (arith, cells-are, peaks-are, can .counted .total)
+      ap (λ (n : ℕ). 24 + 4 * n) cells-are ∙ sym (can .whole .counted .records)
+  header-same (suc (suc (suc (suc (suc zero))))) l = omega (arith, cells-are, peaks-are, can .whole .counted .total)
   header-same (suc (suc (suc (suc (suc (suc j)))))) l = absurd (omega arith)
 
   record-same :
-      (i r : ℕ) → r < 4 → getD (recordOf (recordIn f (cellsIn f) i)) r 0 ≡ wordAt f (6 + cellsIn f + 4 * i + r)
-  unfolding recordOf recordIn
+      (i r : ℕ) → r < 4 → getD (fieldsOf (recordFrom f (cellsIn f) i)) r 0 ≡ wordAt f (6 + cellsIn f + 4 * i + r)
+  unfolding fieldsOf peakFrom
   record-same i zero l = ap (wordAt f) (omega arith)
   record-same i (suc zero) l = bits-signed (wordAt f (6 + cellsIn f + 4 * i + 1)) (below (6 + cellsIn f + 4 * i + 1))
   record-same i (suc (suc zero)) l =
@@ -241,7 +242,7 @@ module _ (f : List ℕ) (bytes : (k : ℕ) → getD f k 0 < 256) {heights table 
           let back : 6 + cellsIn f + 4 * i + r ≡ j = omega arith in
           let e = numbers-record (rowsIn f) hs ps i r (omega (arith, peaks-are)) (omega arith) in
           (rw place at e)
-          ∙ ap (λ (p : Peak). getD (recordOf p) r 0) (records-at f (cellsIn f) (peaksIn f) i (omega arith))
+          ∙ ap (λ (p : Peak). getD (fieldsOf p) r 0) (peaks-at f (6 + cellsIn f) (peaksIn f) i (omega arith))
           ∙ record-same i r (omega arith) ∙ ap (wordAt f) back
     ]
   ]
@@ -259,7 +260,8 @@ module _ (f : List ℕ) (bytes : (k : ℕ) → getD f k 0 < 256) {heights table 
   pub read-file : fileOf (rowsIn f) hs ps ≡ f
   read-file =
       let len = file-length (rowsIn f) hs ps in
-      let total : length f ≡ 24 + 4 * cellsIn f + 16 * peaksIn f = omega (arith, can .total, can .counted .total) in
+      let total : length f ≡ 24 + 4 * cellsIn f + 16 * peaksIn f =
+      omega (arith, can .whole .total, can .whole .counted .total) in
       let same : length (fileOf (rowsIn f) hs ps) ≡ length f = omega (arith, cells-are, peaks-are) in
       ext-getD 0 (fileOf (rowsIn f) hs ps) f same
       (λ k l.

@@ -1,10 +1,8 @@
 pub mod Complement
 pub mod Rows
 pub mod Over
-pub mod Sound
 pub mod WriteAnswer
 pub mod ReadAnswer
 pub mod Files
 pub mod Room
-pub mod Bytes
-pub mod TableBytes
+pub mod Laid

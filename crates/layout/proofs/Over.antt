@@ -1,10 +1,9 @@
--- Laws of bytes laid over others: the one file that unfolds `over` and, with proofs/write, `laid`.
+-- Laws of bytes laid over others: the one file that unfolds `over`.
 --     over-nil, over-front, over-length    no numbers change nothing; at the front; the length stays
 --     over-over                            bytes laid behind those just laid are one row of bytes
 --     byte-of-word                         a byte is a digit of the number that it is part of
 --     over-word                            a number stored at a place of four bytes lays its bytes over
 --     over-next                            numbers laid one after the other are a row of numbers
---     laid-start, laid-step, laid-length   records laid one after the other
 -- A stored number agrees with its bytes laid over at each byte, by the digits. Assumes nothing.
 use mathlib.Core.List.{List, [], _∷_, _++_, append-assoc, append-nil, flatMap}
 use mathlib.Core.Path.{_≡_, sym, ap, _∙_}
@@ -20,9 +19,9 @@ use Rattle.relief.specs.Heights.{BLANK}
 use Rattle.record.specs.declared.Peak.{Peak}
 use Rattle.record.specs.Records.{withoutKey}
 use Rattle.words.specs.Words.{wordAt, Stored}
-use Rattle.layout.specs.Layout.{wordOf, bytesOf, recordOf, recordsOf, totalOf}
-use Rattle.layout.specs.Sound.{recordAt}
-use Rattle.layout.specs.Steps.{over, laid}
+use Rattle.layout.specs.Layout.{wordOf, bytesOf, fieldsOf, allFieldsOf, totalOf}
+use Rattle.sound.specs.Sound.{ithOf}
+use Rattle.layout.specs.Inner.{over, laid}
 use Rattle.layout.proofs.Rows.{four-length, four-append, record-four, bytes-length, bytes-append}
 
 -- ---- laid over
@@ -143,39 +142,3 @@ over-next s {t} {u} vs {w} v at next fits e place same e′ =
     ∙ over-over s at (bytesOf vs) (omega arith) next (wordOf v) (omega arith)
     ∙ ap (λ (l : List ℕ). over s at (bytesOf vs ++ l)) (sym last)
     ∙ ap (over s at) (sym (bytes-append vs (v ∷ [])))
-
--- ---- a row of records
-
-module _ (s : List ℕ) (cells : ℕ) (ps : List Peak) where
-  pub laid-start : laid s cells ps 0 ≡ s
-  unfolding laid flatMap
-  laid-start = sym (over-nil s (24 + 4 * cells))
-
-  module _ (i : ℕ) (l : i ≤ length ps) (fits : 24 + 4 * cells + 16 * i ≤ length s) where
-    laid-bytes : length (bytesOf (recordsOf (take i ps))) ≡ 16 * i
-    laid-bytes =
-        omega (
-          arith,
-          bytes-length (recordsOf (take i ps)),
-          four-length recordOf record-four (take i ps),
-          length-take-le i ps l,
-        )
-
-    pub laid-length : length (laid s cells ps i) ≡ length s
-    unfolding laid
-    laid-length = over-length s (24 + 4 * cells) (bytesOf (recordsOf (take i ps))) (omega (arith, laid-bytes))
-
-    pub laid-step :
-        i < length ps →
-        over (laid s cells ps i) (totalOf cells i) (bytesOf (recordOf (recordAt ps i))) ≡ laid s cells ps (i + 1)
-    unfolding laid flatMap recordAt
-    laid-step h =
-        let old = recordsOf (take i ps) in
-        let p = recordAt ps i in
-        let one : recordsOf (p ∷ []) ≡ recordOf p = append-nil (recordOf p) in
-        let more : recordsOf (take (i + 1) ps) ≡ old ++ recordOf p =
-        rw (add-one i, take-suc ps i (withoutKey 0 BLANK) h)
-        (four-append recordOf record-four (take i ps) (p ∷ []) ∙ ap (λ (k : List ℕ). old ++ k) one) in
-        over-over s (24 + 4 * cells) (bytesOf old) (omega (arith, laid-bytes)) (totalOf cells i) (bytesOf (recordOf p))
-        (omega (arith, laid-bytes))
-        ∙ ap (over s (24 + 4 * cells)) (sym (bytes-append old (recordOf p)) ∙ ap bytesOf (sym more))

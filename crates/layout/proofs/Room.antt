@@ -12,11 +12,12 @@ use lib.Seq.{take-length}
 use Rattle.record.specs.declared.Peak.{Peak}
 use Rattle.layout.specs.declared.Written.{Written}
 use Rattle.layout.specs.declared.Written.the-variants.{Bytes, Refused}
-use Rattle.layout.specs.Layout.{bitsOf, bytesOf, totalOf, headerOf, recordsOf, numbersOf, fileOf}
-use Rattle.layout.specs.Writing.{roomOf}
-use Rattle.layout.specs.Steps.{over, GridPut, Puttable, laid, putOf}
+use Rattle.layout.specs.Layout.{bitsOf, bytesOf, totalOf, headerOf, allFieldsOf, numbersOf, fileOf}
+use Rattle.layout.specs.Promises.{roomAfter}
+use Rattle.layout.specs.Inner.{over, GridPut, Puttable, laid, putOf}
 use Rattle.layout.proofs.Files.{file-length}
-use Rattle.layout.proofs.Over.{over-front, over-over, laid-start}
+use Rattle.layout.proofs.Laid.{laid-start}
+use Rattle.layout.proofs.Over.{over-front, over-over}
 use Rattle.layout.proofs.Rows.{bytes-length, bytes-append}
 use Rattle.layout.proofs.WriteAnswer.{written-writable}
 
@@ -34,22 +35,22 @@ module _ (rows : ℕ) (hs : List ℤ) (ps : List Peak) (k : ℕ) (ys zs : List �
       (w : Written) → GridPut rows hs (length ps) k ys zs w → length zs ≡ length ys →
       Puttable zs (length hs) ps (putOf w (length ps))
   grid-puttable (Bytes b) g l =
-      let can = written-writable rows (length hs) (length ps) k (length ys) (sym (g .answer)) in
+      let can = written-writable rows (length hs) (length ps) k (length ys) _ (g .answered) in
       record { records = omega arith; long = λ h. omega (arith, can .long) }
   grid-puttable (Refused r) g l = record { records = omega arith; long = λ h. absurd (omega arith) }
 
   pub grid-written :
       (w : Written) (ts : List ℕ) → GridPut rows hs (length ps) k ys zs w →
       ts ≡ laid zs (length hs) ps (putOf w (length ps)) →
-      ts ≡ roomOf w (fileOf rows hs ps ++ drop (totalOf (length hs) (length ps)) ys) ys
+      ts ≡ roomAfter w (fileOf rows hs ps ++ drop (totalOf (length hs) (length ps)) ys) ys
   unfolding laid fileOf numbersOf
   grid-written (Bytes b) ts g e =
-      let can = written-writable rows (length hs) (length ps) k (length ys) (sym (g .answer)) in
-      e ∙ ap (λ (qs : List Peak). over zs (24 + 4 * length hs) (bytesOf (recordsOf qs))) (take-length ps)
-      ∙ ap (λ (l : List ℕ). over l (24 + 4 * length hs) (bytesOf (recordsOf ps))) (g .room)
+      let can = written-writable rows (length hs) (length ps) k (length ys) _ (g .answered) in
+      e ∙ ap (λ (qs : List Peak). over zs (24 + 4 * length hs) (bytesOf (allFieldsOf qs))) (take-length ps)
+      ∙ ap (λ (l : List ℕ). over l (24 + 4 * length hs) (bytesOf (allFieldsOf ps))) (g .room)
       ∙ over-over ys 0 (bytesOf front) (omega (arith, front-bytes, can .long)) (24 + 4 * length hs)
-      (bytesOf (recordsOf ps)) (omega (arith, front-bytes))
-      ∙ ap (over ys 0) (sym (bytes-append front (recordsOf ps)))
+      (bytesOf (allFieldsOf ps)) (omega (arith, front-bytes))
+      ∙ ap (over ys 0) (sym (bytes-append front (allFieldsOf ps)))
       ∙ over-front ys (fileOf rows hs ps)
       ∙ ap (λ (n : ℕ). fileOf rows hs ps ++ drop n ys) (file-length rows hs ps)
   grid-written (Refused r) ts g e = e ∙ laid-start zs (length hs) ps ∙ g .room

@@ -1,12 +1,10 @@
 -- Laws of rows: of bytes, of heights and of records, written and read. With `Files` the only file that unfolds
--- `recordOf`, `heightsIn` and `recordsIn`.
---     at-any                                   within a row the default is not read
---     fetched                                  what a call hands back of a row
+-- `fieldsOf`, `heightsIn` and `peaksFrom`.
 --     four-length, four-append, four-at        rows made of pieces of four
 --     bytes-length, bytes-append, bytes-at     the bytes of a row of numbers; bytes-word, a number of it
 --     record-four                              a record has four numbers
 --     heights-length, heights-at               the heights of a file
---     records-length, records-at               its records
+--     peaks-length, peaks-at                   records
 --     heights-fill                             a row of heights that is filled from the front
 --     filled-start, filled-step, filled-length    a table that is
 -- Assumes nothing.
@@ -25,22 +23,10 @@ use mir.ValLaws.{toZ-ofZ}
 use Rattle.relief.specs.Heights.{BLANK}
 use Rattle.record.specs.declared.Peak.{Peak}
 use Rattle.words.specs.Words.{wordAt}
-use Rattle.layout.specs.Layout.{signedOf, wordOf, bytesOf, recordOf, heightsIn, recordIn, recordsIn}
-use Rattle.layout.specs.Sound.{recordAt}
-use Rattle.layout.specs.Steps.{filled}
-
--- ---- within a row the default is not read
-
-pub at-any : {A : Type 0} (xs : List A) (i : ℕ) (d e : A) → i < length xs → getD xs i d ≡ getD xs i e
-at-any [] i d e h = absurd (omega arith)
-at-any (x ∷ xs) zero d e h = refl
-at-any (x ∷ xs) (suc i) d e h = at-any xs i d e (omega arith)
-
--- What a call hands back of a row, as a local holds it.
-pub fetched :
-    (hs : List ℤ) {z : ℤ} {i k : ℕ} → SFits w32 z → z ≡ getD hs i BLANK → i ≡ k →
-    getD hs k BLANK ≡ toZ w32 (ofZ w32 z)
-fetched hs {z} fits e d = ap (λ (n : ℕ). getD hs n BLANK) (sym d) ∙ sym e ∙ sym (toZ-ofZ w32 z fits)
+use Rattle.layout.specs.Layout.{signedOf, wordOf, bytesOf, fieldsOf, heightsIn, peakFrom, peaksFrom}
+use Rattle.layout.specs.Layout.{recordFrom, recordsFrom}
+use Rattle.sound.specs.Sound.{ithOf}
+use Rattle.layout.specs.Inner.{filledFrom}
 
 -- ---- pieces of four
 
@@ -101,8 +87,8 @@ bytes-word vs i h =
       bytes-at vs i 3 h (omega arith),
     )
 
-pub record-four : (p : Peak) → length (recordOf p) ≡ 4
-unfolding recordOf
+pub record-four : (p : Peak) → length (fieldsOf p) ≡ 4
+unfolding fieldsOf
 record-four p = refl
 
 -- ---- what a file holds
@@ -127,23 +113,23 @@ heights-at f (suc n) i h =
           rw e (getD-at (heightsIn f n) (signedOf (wordAt f (6 + n))) [] BLANK n len)
     ]
 
-pub records-length : (f : List ℕ) (cells n : ℕ) → length (recordsIn f cells n) ≡ n
-unfolding recordsIn
-records-length f cells zero = refl
-records-length f cells (suc n) =
-    length-append (recordsIn f cells n) (recordIn f cells n ∷ []) ∙ omega (arith, records-length f cells n)
+pub peaks-length : (s : List ℕ) (at n : ℕ) → length (peaksFrom s at n) ≡ n
+unfolding peaksFrom
+peaks-length s at zero = refl
+peaks-length s at (suc n) =
+    length-append (peaksFrom s at n) (peakFrom s (at + 4 * n) ∷ []) ∙ omega (arith, peaks-length s at n)
 
-pub records-at : (f : List ℕ) (cells n i : ℕ) → i < n → recordAt (recordsIn f cells n) i ≡ recordIn f cells i
-unfolding recordsIn recordAt
-records-at f cells zero i h = absurd (omega arith)
-records-at f cells (suc n) i h =
-    let len = records-length f cells n in
-    let ih : i < n → recordAt (recordsIn f cells n) i ≡ recordIn f cells i = records-at f cells n i in
+pub peaks-at : (s : List ℕ) (at n i : ℕ) → i < n → ithOf (peaksFrom s at n) i ≡ peakFrom s (at + 4 * i)
+unfolding peaksFrom ithOf
+peaks-at s at zero i h = absurd (omega arith)
+peaks-at s at (suc n) i h =
+    let len = peaks-length s at n in
+    let ih : i < n → ithOf (peaksFrom s at n) i ≡ peakFrom s (at + 4 * i) = peaks-at s at n i in
     elim (decLt i n) [
-      | yes l ↦ List·getD-append (recordsIn f cells n) (recordIn f cells n ∷ []) _ i (omega arith) ∙ ih l
+      | yes l ↦ List·getD-append (peaksFrom s at n) (peakFrom s (at + 4 * n) ∷ []) _ i (omega arith) ∙ ih l
       | no m ↦
           let e : i ≡ n = omega arith in
-          rw e (getD-at (recordsIn f cells n) (recordIn f cells n) [] _ n len)
+          rw e (getD-at (peaksFrom s at n) (peakFrom s (at + 4 * n)) [] _ n len)
     ]
 
 -- ---- a lent row that is filled from the front
@@ -163,18 +149,19 @@ heights-fill f old i h =
     fill-step (heightsIn f i) old i BLANK (signedOf (wordAt f (6 + i))) (heights-length f i) h
 
 module _ (old : List Peak) (f : List ℕ) (cells : ℕ) where
-  pub filled-start : filled old f cells 0 ≡ old
-  unfolding recordsIn
+  pub filled-start : filledFrom old f cells 0 ≡ old
+  unfolding peaksFrom
   filled-start = refl
 
   pub filled-step :
-      (i : ℕ) → i < length old → set (filled old f cells i) i (recordIn f cells i) ≡ filled old f cells (i + 1)
-  unfolding recordsIn
+      (i : ℕ) → i < length old →
+      set (filledFrom old f cells i) i (recordFrom f cells i) ≡ filledFrom old f cells (i + 1)
+  unfolding peaksFrom
   filled-step i h =
-      fill-step (recordsIn f cells i) old i (recordIn f cells i) (recordIn f cells i) (records-length f cells i) h
-      ∙ rw (add-one i)
+      let p = recordFrom f cells i in
+      fill-step (recordsFrom f cells i) old i p p (peaks-length f (6 + cells) i) h ∙ rw (add-one i)
 
-  pub filled-length : (i : ℕ) → i ≤ length old → length (filled old f cells i) ≡ length old
+  pub filled-length : (i : ℕ) → i ≤ length old → length (filledFrom old f cells i) ≡ length old
   filled-length i h =
-      length-append (recordsIn f cells i) (drop i old)
-      ∙ omega (arith, records-length f cells i, length-drop i old)
+      length-append (recordsFrom f cells i) (drop i old)
+      ∙ omega (arith, peaks-length f (6 + cells) i, length-drop i old)

@@ -3,12 +3,13 @@
 --     wordOf v, bytesOf vs                      the four bytes of a 32-bit number, the bytes of a row of them
 --     totalOf cells n                           the length of a file
 --     headerOf rows cells n                     the six numbers of the header
---     recordOf p, recordsOf ps                  the four numbers of a record, and those of a row of records
+--     fieldsOf p, allFieldsOf ps                the four numbers of a record, and those of a row of records
 --     numbersOf rows heights records            the 32-bit numbers of a file, in their order
 --     fileOf rows heights records               its bytes
---     rowsIn f, columnsIn f, peaksIn f, cellsIn f    what a file's header says
+--     rowsIn, columnsIn, peaksIn, cellsIn f     what a file's header says
 --     heightsIn f n                             the first n heights of a file
---     recordIn f cells i, recordsIn f cells n   the i-th record of a file of so many cells, and the first n of them
+--     peakFrom s at, peaksFrom s at n           the record whose first number is the at-th of s, n records from it on
+--     recordFrom f cells i, recordsFrom f cells n    the i-th record of a file of so many cells, the first n of them
 -- A file read is a list of bytes, and wordAt f i its i-th number. Assumes nothing.
 use mathlib.Core.Bool.{true, false}
 use mathlib.Core.List.{List, [], _∷_, _++_, map, flatMap}
@@ -48,17 +49,17 @@ unfoldable pub headerOf : ℕ → ℕ → ℕ → List ℕ
 headerOf rows cells n = rows ∷ (cells / rows) ∷ n ∷ 24 ∷ (24 + 4 * cells) ∷ totalOf cells n ∷ []
 
 -- "A record holds cell, height, key height, pass cell."
-unfoldable pub recordOf : Peak → List ℕ
-recordOf p = p .cell ∷ bitsOf (p .height) ∷ bitsOf (p .key) ∷ p .pass ∷ []
+unfoldable pub fieldsOf : Peak → List ℕ
+fieldsOf p = p .cell ∷ bitsOf (p .height) ∷ bitsOf (p .key) ∷ p .pass ∷ []
 
 -- "n records of 16 bytes, fields in the order above"
-abbrev pub recordsOf : List Peak → List ℕ
-recordsOf ps = flatMap recordOf ps
+abbrev pub allFieldsOf : List Peak → List ℕ
+allFieldsOf ps = flatMap fieldsOf ps
 
 -- "A header of counts and offsets [..]. Then the heights in reading order, then n records"
 unfoldable pub numbersOf : ℕ → List ℤ → List Peak → List ℕ
 numbersOf rows heights records =
-    headerOf rows (length heights) (length records) ++ map bitsOf heights ++ recordsOf records
+    headerOf rows (length heights) (length records) ++ map bitsOf heights ++ allFieldsOf records
 
 unfoldable pub fileOf : ℕ → List ℤ → List Peak → List ℕ
 fileOf rows heights records = bytesOf (numbersOf rows heights records)
@@ -82,16 +83,22 @@ unfoldable pub heightsIn : List ℕ → ℕ → List ℤ
 heightsIn f zero = []
 heightsIn f (suc i) = heightsIn f i ++ (signedOf (wordAt f (6 + i)) ∷ [])
 
-unfoldable pub recordIn : List ℕ → ℕ → ℕ → Peak
-recordIn f cells i =
-    let at = 6 + cells + 4 * i in
-    record {
-      cell = wordAt f at;
-      height = signedOf (wordAt f (at + 1));
-      key = signedOf (wordAt f (at + 2));
-      pass = wordAt f (at + 3);
-    }
+-- A record is four numbers, the first of which is the at-th.
+unfoldable pub peakFrom : List ℕ → ℕ → Peak
+peakFrom s at = record {
+  cell = wordAt s at;
+  height = signedOf (wordAt s (at + 1));
+  key = signedOf (wordAt s (at + 2));
+  pass = wordAt s (at + 3);
+}
 
-unfoldable pub recordsIn : List ℕ → ℕ → ℕ → List Peak
-recordsIn f cells zero = []
-recordsIn f cells (suc i) = recordsIn f cells i ++ (recordIn f cells i ∷ [])
+unfoldable pub peaksFrom : List ℕ → ℕ → ℕ → List Peak
+peaksFrom s at zero = []
+peaksFrom s at (suc i) = peaksFrom s at i ++ (peakFrom s (at + 4 * i) ∷ [])
+
+-- Those of a file stand behind its header and its heights.
+abbrev pub recordFrom : List ℕ → ℕ → ℕ → Peak
+recordFrom f cells i = peakFrom f (6 + cells + 4 * i)
+
+abbrev pub recordsFrom : List ℕ → ℕ → ℕ → List Peak
+recordsFrom f cells n = peaksFrom f (6 + cells) n

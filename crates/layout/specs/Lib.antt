@@ -1,5 +1,3 @@
 pub mod Layout
-pub mod Sound
-pub mod Writing
-pub mod Reading
-pub mod Steps
+pub mod Promises
+pub mod Inner

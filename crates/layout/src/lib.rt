@@ -1,25 +1,24 @@
-// The run file in bytes: header, heights and records, which records are sound, and the answers of writing and reading,
-// for all that needs no row of records.
-mod numbers; // numbers.rt: the two's complement of a height, the cells of a grid
+// The run file in bytes: header, heights and records, and the answers of writing and reading, for all that needs no row
+// of records.
+mod numbers; // numbers.rt: the two's complement of a height, the cells of a grid, a number in four bytes
 pub mod reader; // reader.rt: reading all but the records
 pub mod records; // records.rt: records in bytes
-pub mod soundness; // soundness.rt: which records are sound
+pub mod soundness; // soundness.rt: which records of a file are sound
 pub mod writer; // writer.rt: writing all but the records
 
 // What other crates call.
-pub use numbers::cells_of;
+pub use numbers::grid_cells;
 pub use numbers::signed;
 pub use reader::cells_to_take;
 pub use reader::records_to_take;
 pub use reader::take_grid;
 use record::Refusal;
-pub use records::lay_record;
 pub use records::lay_records;
-pub use records::record_in;
-pub use soundness::scan;
-pub use soundness::scanned;
+pub use records::peak_from;
+pub use records::put_peak;
+pub use records::put_record;
+pub use records::record_from;
 pub use writer::put_grid;
-pub use writer::put_record;
 pub use writer::records_to_put;
 
 // What writing comes to: the number of bytes written, or why nothing was.

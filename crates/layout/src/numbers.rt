@@ -1,7 +1,9 @@
-// Numbers as the file has them: the two's complement of a height, and the cells of a grid.
+// Numbers as the file has them: the two's complement of a height, the cells of a grid, a number in its four bytes.
 ghost use mathlib.Core.Path.{_≡_};
-ghost use Prim.Native.Nat.{_*_};
-ghost use Rattle.layout.specs.Layout.{bitsOf, signedOf};
+ghost use Prim.Native.Nat.{_+_, _*_, _≤_};
+ghost use lib.ListN.{length};
+ghost use Rattle.layout.specs.Layout.{bitsOf, signedOf, wordOf};
+ghost use Rattle.layout.specs.Inner.{over};
 
 // What a level and the bits of its height differ by, modulo 2^32.
 const HALF: u32 = 2147483648;
@@ -19,8 +21,16 @@ pub fn signed(bits: u32) -> i32
 }
 
 // The cells of a grid. The product of two 32-bit numbers is made in 64 bits.
-pub fn cells_of(rows: u32, columns: u32) -> usize
+pub fn grid_cells(rows: u32, columns: u32) -> usize
     ensures { λ r. ⌜ r ≡ rows * columns ⌝ }
 {
     words::index(rows) * words::index(columns)
+}
+
+// Puts a number at the i-th place of four bytes.
+pub fn put_word(room: &mut [u8], i: usize, v: u32)
+    requires { ⌜ 4 * i + 4 ≤ length (now room) ⌝ }
+    ensures { λ r. ⌜ now (room .exit) ≡ over (now (room .entry)) (4 * i) (wordOf v) ⌝ }
+{
+    words::put(room, i, v);
 }

@@ -3,15 +3,16 @@ ghost use mathlib.Core.List.{_++_};
 ghost use mathlib.Core.Path.{_≡_};
 ghost use Prim.Native.Nat.{_+_, _*_, _<_, _≤_};
 ghost use lib.ListN.{length, drop};
+ghost use Rattle.record.specs.Refusals.{firstOf};
 ghost use Rattle.layout.specs.Layout.{heightsIn};
-ghost use Rattle.layout.specs.Reading.{Judges, miscounted};
-ghost use Rattle.layout.specs.Steps.{GridTaken};
-ghost use Rattle.layout.specs.Steps.{cellsToTake, recordsToTake};
+ghost use Rattle.layout.specs.Promises.{miscounted, ReadAnswers};
+ghost use Rattle.layout.specs.Inner.{fileGridTests, headerTests, GridTaken, cellsToTake, recordsToTake};
 use crate::ReadBack;
-use crate::numbers::cells_of;
+use crate::numbers::grid_cells;
 use crate::numbers::signed;
 use crate::soundness::first_unsound_in;
 use record::Cell;
+use record::Checked;
 use record::Refusal;
 
 // Whether the counts and offsets of the header contradict each other.
@@ -32,51 +33,60 @@ fn is_miscounted(file: &[u8], cells: usize, n: usize) -> bool
     words::index(words::get(file, 5)) != offset + 16 * n
 }
 
-// The answer of `read`, for so many lent heights and table entries.
-fn judge(file: &[u8], heights: usize, table: usize) -> ReadBack
-    ensures { λ r. ⌜ Judges (now (file .entry)) heights table r ⌝ }
+// The tests of the file's grid: 10 (under 24 bytes), 1, 3.
+fn check_file_grid(file: &[u8]) -> Checked
+    ensures { λ r. ⌜ r ≡ firstOf (fileGridTests (now (file .entry))) ⌝ }
 {
     if file.len() < 24 {
-        return ReadBack::Refused(Refusal::FileLength);
+        return Checked::Bad(Refusal::FileLength);
     }
     let rows = words::get(file, 0);
-    if rows == 0 {
-        return ReadBack::Refused(Refusal::Rows);
+    let cells = grid_cells(rows, words::get(file, 1));
+    let checked = record::then_test(Checked::Good, record::bad_rows(rows), Refusal::Rows);
+    record::then_test(checked, Cell::MAX_CELLS < cells, Refusal::Cells)
+}
+
+// The tests of the header: those of the grid, then 11 and 10 (total).
+fn check_header(file: &[u8]) -> Checked
+    ensures { λ r. ⌜ r ≡ firstOf (headerTests (now (file .entry))) ⌝ }
+{
+    let checked = check_file_grid(file);
+    if let Checked::Bad(_) = checked {
+        return checked;
     }
-    if Cell::MAX_ROWS < rows {
-        return ReadBack::Refused(Refusal::Rows);
+    let cells = grid_cells(words::get(file, 0), words::get(file, 1));
+    let wrong = is_miscounted(file, cells, words::index(words::get(file, 2)));
+    let total = words::index(words::get(file, 5));
+    let checked = record::then_test(checked, wrong, Refusal::FileCounts);
+    record::then_test(checked, file.len() != total, Refusal::FileLength)
+}
+
+// The answer of `read`, for so many lent heights and table entries.
+fn judge(file: &[u8], heights: usize, table: usize) -> ReadBack
+    ensures { λ r. ⌜ ReadAnswers (now (file .entry)) heights table r ⌝ }
+{
+    let checked = check_header(file);
+    if let Checked::Bad(refusal) = checked {
+        return ReadBack::Refused(refusal);
     }
+    let rows = words::get(file, 0);
     let columns = words::get(file, 1);
-    let cells = cells_of(rows, columns);
-    if Cell::MAX_CELLS < cells {
-        return ReadBack::Refused(Refusal::Cells);
-    }
     let peaks = words::get(file, 2);
+    let cells = grid_cells(rows, columns);
     let n = words::index(peaks);
-    if is_miscounted(file, cells, n) {
-        return ReadBack::Refused(Refusal::FileCounts);
-    }
-    if file.len() != words::index(words::get(file, 5)) {
-        return ReadBack::Refused(Refusal::FileLength);
-    }
     let unsound = first_unsound_in(file, cells, n);
-    if unsound < n {
-        return ReadBack::Refused(Refusal::Unsound {
-            index: words::narrow(unsound),
-        });
-    }
-    if heights < cells {
-        return ReadBack::Refused(Refusal::Room {
-            needed: words::narrow(cells),
-        });
-    }
-    if table < n {
-        return ReadBack::Refused(Refusal::Table { needed: peaks });
-    }
-    ReadBack::Run {
-        rows: rows,
-        columns: columns,
-        peaks: peaks,
+    let index = words::narrow(unsound);
+    let needed = words::narrow(cells);
+    let checked = record::then_test(checked, unsound < n, Refusal::Unsound { index: index });
+    let checked = record::then_test(checked, heights < cells, Refusal::Room { needed: needed });
+    let checked = record::then_test(checked, table < n, Refusal::Table { needed: peaks });
+    match checked {
+        Checked::Bad(refusal) => ReadBack::Refused(refusal),
+        Checked::Good => ReadBack::Run {
+            rows: rows,
+            columns: columns,
+            peaks: peaks,
+        },
     }
 }
 
@@ -101,7 +111,7 @@ pub fn cells_to_take(answer: ReadBack) -> usize
             rows,
             columns,
             peaks: _,
-        } => cells_of(rows, columns),
+        } => grid_cells(rows, columns),
         ReadBack::Refused(_) => 0,
     }
 }

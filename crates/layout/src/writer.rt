@@ -1,34 +1,39 @@
-// Writing all but the records, and one record at a time.
-ghost use mathlib.Core.List.{map};
+// Writing all but the records.
+ghost use mathlib.Core.List.{[], _∷_, map};
 ghost use mathlib.Core.Path.{_≡_};
 ghost use Prim.Native.Nat.{_+_, _*_, _<_, _≤_};
 ghost use lib.ListN.{length};
-ghost use Rattle.layout.specs.Layout.{bitsOf, wordOf, bytesOf, headerOf, recordOf, totalOf};
-ghost use Rattle.layout.specs.Writing.{writtenOf};
-ghost use Rattle.layout.specs.Steps.{over, Few, GridPut};
-ghost use Rattle.layout.specs.Steps.{putOf};
+ghost use Rattle.record.specs.Refusals.{granted, firstOf, toldBy};
+ghost use Rattle.layout.specs.Layout.{bitsOf, bytesOf, headerOf, totalOf};
+ghost use Rattle.layout.specs.Promises.{writtenTold, writeTests};
+ghost use Rattle.layout.specs.Inner.{gridTests, over, Few, GridPut, putOf};
 use crate::Written;
 use crate::numbers::bits;
+use crate::numbers::put_word;
 use record::Cell;
-use record::Peak;
+use record::Checked;
 use record::Refusal;
 
-// The answer of `write`.
+// The tests of the grid: 1, 2, 3.
+fn check_grid(rows: u32, cells: usize) -> Checked
+    ensures { λ r. ⌜ r ≡ firstOf (gridTests rows cells) ⌝ }
+{
+    let uneven = record::uneven(cells, words::index(rows));
+    let checked = record::then_test(Checked::Good, record::bad_rows(rows), Refusal::Rows);
+    let checked = record::then_test(checked, uneven, Refusal::Length);
+    record::then_test(checked, Cell::MAX_CELLS < cells, Refusal::Cells)
+}
+
+// The answer of `write`. What it tells of a number fits 32 bits: by then the cells are few, and the sound records are
+// no more than cells.
 fn plan(rows: u32, cells: usize, n: usize, unsound: usize, room: usize) -> Written
     requires { ⌜ Few cells n unsound ⌝ }
-    ensures { λ r. ⌜ r ≡ writtenOf rows cells n unsound room ⌝ }
+    ensures { λ r. ⌜ writtenTold r
+        ≡ toldBy (writeTests rows cells n unsound room) (granted (totalOf cells n ∷ [])) ⌝ }
 {
-    if rows == 0 {
-        return Written::Refused(Refusal::Rows);
-    }
-    if Cell::MAX_ROWS < rows {
-        return Written::Refused(Refusal::Rows);
-    }
-    if cells % words::index(rows) != 0 {
-        return Written::Refused(Refusal::Length);
-    }
-    if Cell::MAX_CELLS < cells {
-        return Written::Refused(Refusal::Cells);
+    let checked = check_grid(rows, cells);
+    if let Checked::Bad(refusal) = checked {
+        return Written::Refused(refusal);
     }
     if unsound < n {
         return Written::Refused(Refusal::Unsound {
@@ -42,14 +47,6 @@ fn plan(rows: u32, cells: usize, n: usize, unsound: usize, room: usize) -> Writt
         });
     }
     Written::Bytes(words::narrow(total))
-}
-
-// Puts a number at the i-th place of four bytes.
-fn put_word(room: &mut [u8], i: usize, v: u32)
-    requires { ⌜ 4 * i + 4 ≤ length (now room) ⌝ }
-    ensures { λ r. ⌜ now (room .exit) ≡ over (now (room .entry)) (4 * i) (wordOf v) ⌝ }
-{
-    words::put(room, i, v);
 }
 
 fn put_header(room: &mut [u8], rows: u32, cells: usize, n: usize)
@@ -76,18 +73,6 @@ fn put_heights(room: &mut [u8], heights: &[i32])
         put_word(room, 6 + i, bits(heights[i]));
         i += 1;
     }
-}
-
-// Puts the i-th record behind so many cells.
-pub fn put_record(room: &mut [u8], cells: usize, i: usize, p: Peak)
-    requires { ⌜ totalOf cells (i + 1) ≤ length (now room) ⌝ }
-    ensures { λ r. ⌜ now (room .exit) ≡ over (now (room .entry)) (totalOf cells i) (bytesOf (recordOf p)) ⌝ }
-{
-    let at = 6 + cells + 4 * i;
-    put_word(room, at, p.cell);
-    put_word(room, at + 1, bits(p.height));
-    put_word(room, at + 2, bits(p.key));
-    put_word(room, at + 3, p.pass);
 }
 
 // The number of records that the answer says are to be put.

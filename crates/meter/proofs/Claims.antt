@@ -10,7 +10,7 @@ use Rattle.relief.proofs.Lists.{order-unique}
 use Rattle.record.specs.declared.Handed.{Handed}
 use Rattle.run.specs.Running.{columnCheck, handedAnswer}
 use Rattle.layout.specs.declared.ReadBack.{ReadBack}
-use Rattle.layout.specs.Layout.{bytesOf, recordsOf, recordsIn, heightsIn, cellsIn, peaksIn}
+use Rattle.layout.specs.Layout.{bytesOf, allFieldsOf, recordsFrom, heightsIn, cellsIn, peaksIn}
 use Rattle.layout.specs.Reading.{readOf, lentOf}
 use Rattle.layout.proofs.Sound.{first-unique}
 use Rattle.runfile.proofs.Claims as runfile
@@ -40,7 +40,7 @@ meter-read-unique f heights h h′ table t t′ a b p q =
     let e : p .back ≡ q .back =
     p .judged .answer ∙ ap (readOf f (length heights) (length table / 16)) k ∙ sym (q .judged .answer) in
     let hs = heightsIn f (cellsIn f) ++ drop (cellsIn f) heights in
-    let ts = bytesOf (recordsOf (recordsIn f (cellsIn f) (peaksIn f))) ++ drop (16 * peaksIn f) table in (
+    let ts = bytesOf (allFieldsOf (recordsFrom f (cellsIn f) (peaksIn f))) ++ drop (16 * peaksIn f) table in (
       p .answered ∙ ap readNumber e ∙ sym (q .answered),
       p .heights ∙ ap (λ (x : ReadBack). lentOf x hs heights) e ∙ sym (q .heights),
       p .filled ∙ ap (λ (x : ReadBack). lentOf x ts table) e ∙ sym (q .filled),

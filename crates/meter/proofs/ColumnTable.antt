@@ -17,7 +17,7 @@ use Rattle.table.specs.Inner.{Standing, recordsIn, countIn, cellsRead}
 use Rattle.table.proofs.Handed.{counted-none}
 use Rattle.run.specs.declared.Run.{Run}
 use Rattle.run.specs.Running.{takenOf, FlatColumn}
-use Rattle.layout.specs.Layout.{bytesOf, recordsOf}
+use Rattle.layout.specs.Layout.{bytesOf, allFieldsOf}
 use Rattle.meter.specs.Metered.{handedBytes}
 
 module _ (left table : List ℕ) (cells : ℕ) where
@@ -27,10 +27,10 @@ module _ (left table : List ℕ) (cells : ℕ) where
   puttable (Refused r) h = (counted-none left, omega arith)
 
   put : (a : Handed) (batch : List Entry) → ((n : ℕ) → a ≡ Count n → recordsIn left cells n ≡ map recordOf batch)
-      → bytesOf (recordsOf (recordsIn left (cellsRead a cells) (countIn a))) ++ drop (16 * countIn a) table
+      → bytesOf (allFieldsOf (recordsIn left (cellsRead a cells) (countIn a))) ++ drop (16 * countIn a) table
       ≡ handedBytes a batch table
   unfolding recordsIn flatMap
-  put (Count n) batch h = ap (λ (l : List Peak). bytesOf (recordsOf l) ++ drop (16 * n) table) (h n refl)
+  put (Count n) batch h = ap (λ (l : List Peak). bytesOf (allFieldsOf l) ++ drop (16 * n) table) (h n refl)
   put (Refused r) batch h = refl
 
 module _ {run : Run} {column grid grid′ : List ℤ} {work : List ℕ} (table : List ℕ) {left : List ℕ} {after : Run}
@@ -40,7 +40,7 @@ module _ {run : Run} {column grid grid′ : List ℤ} {work : List ℕ} (table :
   column-puttable = puttable left table (takenOf run + run .rows) a (h .counted)
 
   pub column-put : {t : List ℕ}
-      → t ≡ bytesOf (recordsOf (recordsIn left (cellsRead a (takenOf run + run .rows)) (countIn a)))
+      → t ≡ bytesOf (allFieldsOf (recordsIn left (cellsRead a (takenOf run + run .rows)) (countIn a)))
       ++ drop (16 * countIn a) table
       → t ≡ handedBytes a (h .batch) table
   column-put e = e ∙ put left table (takenOf run + run .rows) a (h .batch) (h .records)

@@ -9,7 +9,7 @@ use native.Mathlib.Omega.{arith}
 use lib.ListN.{length, drop}
 use Rattle.layout.specs.declared.ReadBack.{ReadBack}
 use Rattle.layout.specs.declared.ReadBack.the-variants.{Run, Refused}
-use Rattle.layout.specs.Layout.{totalOf, bytesOf, recordsOf, recordsIn, cellsIn, peaksIn}
+use Rattle.layout.specs.Layout.{totalOf, bytesOf, allFieldsOf, recordsFrom, cellsIn, peaksIn}
 use Rattle.layout.specs.Reading.{Judges, lentOf}
 use Rattle.layout.specs.Steps.{cellsToTake, recordsToTake}
 use Rattle.layout.proofs.ReadAnswer.{read-readable, read-same}
@@ -31,11 +31,11 @@ module _ (f : List ℕ) (heights : ℕ) (table : List ℕ) where
   file-takable (Refused r) j = (omega arith, λ h. absurd (omega arith))
 
   pub file-taken : (a : ReadBack) → Judges f heights room a
-      → bytesOf (recordsOf (recordsIn f (cellsToTake a) (recordsToTake a))) ++ drop (16 * recordsToTake a) table
-      ≡ lentOf a (bytesOf (recordsOf (recordsIn f (cellsIn f) (peaksIn f))) ++ drop (16 * peaksIn f) table) table
-  unfolding recordsIn flatMap
+      → bytesOf (allFieldsOf (recordsFrom f (cellsToTake a) (recordsToTake a))) ++ drop (16 * recordsToTake a) table
+      ≡ lentOf a (bytesOf (allFieldsOf (recordsFrom f (cellsIn f) (peaksIn f))) ++ drop (16 * peaksIn f) table) table
+  unfolding recordsFrom flatMap
   file-taken (Run rows columns peaks) j =
       let same = read-same f heights room (j .unsound) (sym (j .answer)) in
-      ap (λ (a : ReadBack). bytesOf (recordsOf (recordsIn f (cellsToTake a) (recordsToTake a)))
+      ap (λ (a : ReadBack). bytesOf (allFieldsOf (recordsFrom f (cellsToTake a) (recordsToTake a)))
       ++ drop (16 * recordsToTake a) table) same
   file-taken (Refused r) j = refl

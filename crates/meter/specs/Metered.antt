@@ -25,7 +25,7 @@ use Rattle.run.specs.declared.Run.{Run}
 use Rattle.run.specs.Running.{columnCheck, handedAnswer, columnGrid, heightsWith}
 use Rattle.layout.specs.declared.Written.{Written}
 use Rattle.layout.specs.declared.ReadBack.{ReadBack}
-use Rattle.layout.specs.Layout.{signedOf, bytesOf, recordsOf, recordsIn, heightsIn, cellsIn, peaksIn}
+use Rattle.layout.specs.Layout.{signedOf, bytesOf, allFieldsOf, recordsFrom, heightsIn, cellsIn, peaksIn}
 use Rattle.layout.specs.Reading.{Judges, lentOf}
 use Rattle.runfile.specs.Promises.{Writes}
 use Rattle.meter.specs.Numbers.{handedNumber, writtenNumber, readNumber}
@@ -37,7 +37,7 @@ openRun rows columns T = record { rows = rows; columns = columns; threshold = T;
 
 -- "A refusal [..] writes nothing"; "On success [..] bytes [..] beyond those counted stay as they were."
 abbrev pub handedBytes : Handed → List Entry → List ℕ → List ℕ
-handedBytes (Count n) batch table = bytesOf (recordsOf (map recordOf batch)) ++ drop (16 * n) table
+handedBytes (Count n) batch table = bytesOf (allFieldsOf (map recordOf batch)) ++ drop (16 * n) table
 handedBytes (Refused r) batch table = table
 
 -- `Columns` of `run`; the run record after the call follows from the answer, and the caller keeps it.
@@ -82,4 +82,4 @@ pub record MeterReads (f : List ℕ) (hs hs′ : List ℤ) (table table′ : Lis
   pub answered : answer ≡ readNumber back
   pub heights : hs′ ≡ lentOf back (heightsIn f (cellsIn f) ++ drop (cellsIn f) hs) hs
   pub filled : table′ ≡ lentOf back
-      (bytesOf (recordsOf (recordsIn f (cellsIn f) (peaksIn f))) ++ drop (16 * peaksIn f) table) table
+      (bytesOf (allFieldsOf (recordsFrom f (cellsIn f) (peaksIn f))) ++ drop (16 * peaksIn f) table) table

@@ -4,7 +4,7 @@ ghost use mathlib.Core.Path.{_≡_};
 ghost use mathlib.Core.List.{_++_};
 ghost use Prim.Native.Nat.{_+_, _*_, _/_, _≤_, _<_};
 ghost use lib.ListN.{length, drop};
-ghost use Rattle.layout.specs.Layout.{totalOf, bytesOf, recordsOf, recordsIn};
+ghost use Rattle.layout.specs.Layout.{totalOf, bytesOf, allFieldsOf, recordsFrom};
 ghost use Rattle.layout.specs.Sound.{FirstUnsound};
 ghost use Rattle.layout.specs.Steps.{Puttable, laid};
 ghost use Rattle.meter.specs.Numbers.{refusedNumber, handedNumber, writtenNumber, readNumber};
@@ -155,12 +155,12 @@ pub extern "C" fn meter_write(rows: u32, heights: &[i32], records: &[u8], room: 
 // Puts the first `count` records of a file of so many cells at the table's first places. Its other bytes stay.
 fn take_records(table: &mut [u8], file: &[u8], cells: usize, count: usize)
     requires { ⌜ (16 * count ≤ length (now table)) × (0 < count → totalOf cells count ≤ length (now file)) ⌝ }
-    ensures { λ r. ⌜ now (table .exit) ≡ bytesOf (recordsOf (recordsIn (now (file .entry)) cells count))
+    ensures { λ r. ⌜ now (table .exit) ≡ bytesOf (allFieldsOf (recordsFrom (now (file .entry)) cells count))
         ++ drop (16 * count) (now (table .entry)) ⌝ }
 {
     let mut i: usize = 0;
     while i < count {
-        layout::lay_record(table, i, layout::record_in(file, cells, i));
+        layout::lay_record(table, i, layout::record_from(file, cells, i));
         i += 1;
     }
 }

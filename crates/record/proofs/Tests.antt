@@ -6,16 +6,21 @@
 --     first-good                 .. and the other way round
 --     first-end                  where none of the tests applies, one more at the end decides
 --     first-bad                  a refusal among the tests comes before one behind them
+--     first-before, first-at     .. and before all behind them; a test is the first to apply where none before it does
+--     told-by                    what a call tells by the answer of its tests
+--     granted-good               a call that is granted has passed them
 -- Assumes nothing.
 use mathlib.Core.Path.{_≡_, refl, sym, _∙_, ap, ap₂}
 use mathlib.Core.Bool.{Bool, true, false, cond}
 use mathlib.Core.List.{List, [], _∷_, _++_}
+use Prim.Native.Nat.{ℕ}
 use Rattle.relief.proofs.Tests.{true-not-false}
 use Rattle.record.specs.declared.Refusal.{Refusal}
 use Rattle.record.specs.declared.Checked.{Checked}
 use Rattle.record.specs.declared.Checked.the-variants.{Good, Bad}
-use Rattle.record.specs.Refusals.{firstOf}
+use Rattle.record.specs.Refusals.{Told, granted, toldOf, checkedTold, firstOf, toldBy}
 use Rattle.record.specs.Inner.{thenTest}
+use Rattle.record.proofs.Refusals.{told-refused}
 
 abbrev pub Passed : List (Bool × Refusal) → Type 0
 Passed [] = Unit {0}
@@ -82,3 +87,35 @@ first-end tests b r e = sym (then-end tests b r) ∙ ap (λ (c : Checked). thenT
 pub first-bad : (tests : List (Bool × Refusal)) (b : Bool) (r : Refusal) {q : Refusal} → firstOf tests ≡ Bad q
     → firstOf (tests ++ ((b, r) ∷ [])) ≡ Bad q
 first-bad tests b r e = sym (then-end tests b r) ∙ ap (λ (c : Checked). thenTest c b r) e
+
+pub first-before : (before rest : List (Bool × Refusal)) {q : Refusal} → firstOf before ≡ Bad q
+    → firstOf (before ++ rest) ≡ Bad q
+unfolding firstOf
+first-before [] rest e = bad-not-good e refl
+first-before (test ∷ before) rest {q} e = go (test .0) (first-before before rest) e
+  where
+    go : (b : Bool) → (firstOf before ≡ Bad q → firstOf (before ++ rest) ≡ Bad q)
+        → cond b (Bad (test .1)) (firstOf before) ≡ Bad q → cond b (Bad (test .1)) (firstOf (before ++ rest)) ≡ Bad q
+    go true f g = g
+    go false f g = f g
+
+pub first-at : (before : List (Bool × Refusal)) → Passed before → (b : Bool) (r : Refusal)
+    (rest : List (Bool × Refusal)) → b ≡ true → firstOf (before ++ ((b, r) ∷ rest)) ≡ Bad r
+unfolding firstOf
+first-at [] p b r rest e = ap (λ (x : Bool). cond x (Bad r) (firstOf rest)) e
+first-at (test ∷ before) p b r rest e =
+    ap (λ (x : Bool). cond x (Bad (test .1)) (firstOf (before ++ ((b, r) ∷ rest)))) (p .0)
+    ∙ first-at before (p .1) b r rest e
+
+-- ---- what a call tells by its tests
+
+pub told-by : (told : Told) {c d : Checked} → c ≡ d → checkedTold c told ≡ checkedTold d told
+told-by told e = ap (λ (c : Checked). checkedTold c told) e
+
+pub granted-good : (tests : List (Bool × Refusal)) (told : Told) (values : List ℕ)
+    → granted values ≡ toldBy tests told → firstOf tests ≡ Good
+granted-good tests told values e = go (firstOf tests) e
+  where
+    go : (c : Checked) → granted values ≡ checkedTold c told → c ≡ Good
+    go Good f = refl
+    go (Bad r) f = told-refused r values (sym f)

@@ -2,21 +2,26 @@
 --     WriteUnique            the promise of `write` allows one answer and one room at the end
 --     ReadUnique             the promise of `read` allows one answer, one row of heights and one table at the end
 --     ReadsBackWrites        what was written is read back
+--     ListsReadBack          so a grid with its list is read back
 --     WritesBackReads        what was read is written back
 --     Claims                 all of these
 -- Assumes nothing.
-use mathlib.Core.List.{List, _++_}
+use mathlib.Core.List.{List, _++_, map}
 use mathlib.Core.Path.{_≡_}
 use Prim.Native.Nat.{ℕ, _*_, _/_, _≤_, _<_}
 use lib.IntN.{ℤ}
 use lib.ListN.{length, getD, take, drop}
+use Rattle.relief.specs.Heights.{levels}
+use Rattle.relief.specs.Peaks.{Entry, ListOf}
+use Rattle.relief.specs.Plane.{planeOf, touchOf}
 use Rattle.record.specs.declared.Peak.{Peak}
+use Rattle.record.specs.Records.{recordOf}
+use Rattle.sound.specs.Sound.{GridOf, SoundRow}
 use Rattle.layout.specs.declared.Written.{Written}
 use Rattle.layout.specs.declared.Written.the-variants.{Bytes}
 use Rattle.layout.specs.declared.ReadBack.{ReadBack}
 use Rattle.layout.specs.declared.ReadBack.the-variants.{Run}
 use Rattle.layout.specs.Layout.{totalOf}
-use Rattle.layout.specs.Sound.{GridOf, SoundRow}
 use Rattle.runfile.specs.Promises.{Writes, Reads}
 
 -- ---- one answer
@@ -49,6 +54,17 @@ ReadsBackWrites =
     Writes rows hs ps room room′ w → Reads (take (totalOf (length hs) (length ps)) room′) s s′ t t′ a →
     (w ≡ Bytes (totalOf (length hs) (length ps))) × SameRun rows hs s s′ ps t t′ a
 
+-- So it is with the list of a grid: its records are sound (`ListSound` of `sound`).
+abbrev pub ListsReadBack : Type 0
+ListsReadBack =
+    (rows : ℕ) (hs s s′ : List ℤ) (T : ℕ) (l : List Entry) (t t′ : List Peak) (room room′ : List ℕ) (w : Written)
+    (a : ReadBack) →
+    GridOf rows hs → ListOf (touchOf (planeOf rows)) (levels hs) T l →
+    let ps = map recordOf l in
+    totalOf (length hs) (length ps) ≤ length room → length hs ≤ length s → length ps ≤ length t →
+    Writes rows hs ps room room′ w → Reads (take (totalOf (length hs) (length ps)) room′) s s′ t t′ a →
+    (w ≡ Bytes (totalOf (length hs) (length ps))) × SameRun rows hs s s′ ps t t′ a
+
 -- A file that is read is written back, byte for byte, from what it gave.
 abbrev pub WritesBackReads : Type 0
 WritesBackReads =
@@ -64,4 +80,5 @@ pub record Claims : Type 0 where
   pub write-unique : WriteUnique
   pub read-unique : ReadUnique
   pub reads-back-writes : ReadsBackWrites
+  pub lists-read-back : ListsReadBack
   pub writes-back-reads : WritesBackReads

@@ -1,7 +1,7 @@
 // Writing and reading the run file, with the records in a lent row.
 ghost use mathlib.Core.Path.{_≡_};
-ghost use Rattle.layout.specs.Sound.{FirstUnsound};
-ghost use Rattle.layout.specs.Steps.{Takable, Puttable, laid, filled};
+ghost use Rattle.sound.specs.Sound.{FirstUnsound};
+ghost use Rattle.layout.specs.Inner.{Takable, Puttable, laid, filledFrom};
 ghost use Rattle.runfile.specs.Promises.{Writes, Reads};
 use layout::ReadBack;
 use layout::Written;
@@ -17,10 +17,10 @@ fn first_unsound(heights: &[i32], records: &[Peak]) -> usize
     let mut state: usize = 0;
     let mut i: usize = 0;
     while i < n {
-        state = layout::scan(heights, state, i, records[i]);
+        state = sound::scan(heights, state, i, records[i]);
         i += 1;
     }
-    layout::scanned(state, n)
+    sound::scanned(state, n)
 }
 
 // Puts the first `count` records behind so many cells.
@@ -38,11 +38,11 @@ fn put_records(room: &mut [u8], cells: usize, records: &[Peak], count: usize)
 // Fills in the first `count` records of a file. The other entries of the table stay as they were.
 fn take_records(table: &mut [Peak], file: &[u8], cells: usize, count: usize)
     requires { ⌜ Takable (now table) (now file) cells count ⌝ }
-    ensures { λ r. ⌜ now (table .exit) ≡ filled (now (table .entry)) (now (file .entry)) cells count ⌝ }
+    ensures { λ r. ⌜ now (table .exit) ≡ filledFrom (now (table .entry)) (now (file .entry)) cells count ⌝ }
 {
     let mut i: usize = 0;
     while i < count {
-        table[i] = layout::record_in(file, cells, i);
+        table[i] = layout::record_from(file, cells, i);
         i += 1;
     }
 }

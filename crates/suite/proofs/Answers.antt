@@ -25,7 +25,7 @@ use Rattle.area.specs.Area.{levelIn}
 use Rattle.survey.specs.Answers.{entriesIn, Loaded, Answered}
 use Rattle.survey.proofs.Records.{places-record, places-length}
 use Rattle.survey.proofs.Marks.{loaded-levels}
-use Rattle.layout.specs.Layout.{bytesOf, recordsOf}
+use Rattle.layout.specs.Layout.{bytesOf, allFieldsOf}
 use Rattle.layout.proofs.TableBytes.{recordBytes}
 use Rattle.suite.specs.Entry.{heightsOf, suiteAnswer, suiteTable, SuiteLists}
 use Rattle.suite.proofs.Heights.{heights-length}
@@ -141,5 +141,5 @@ module _ {rows : ℕ} {heights : List ℕ} {T : ℕ} {work work′ : List ℕ} (
       → SuiteLists rows heights T work work′ table table′ (pos k)
   suite-count l f =
       listed (answer-count h (length table) k l)
-      (f ∙ ap (λ (ps : List Peak). bytesOf (recordsOf ps) ++ drop (16 * k) table)
+      (f ∙ ap (λ (ps : List Peak). bytesOf (allFieldsOf ps) ++ drop (16 * k) table)
       (places-record left (length heights / 4) k)) (λ n q l. pos-not-negsuc q)

@@ -17,7 +17,7 @@ use Rattle.relief.specs.Plane.{planeOf, touchOf}
 use Rattle.record.specs.Records.{recordOf}
 use Rattle.record.specs.Refusals.{badRows}
 use Rattle.words.specs.Words.{wordAt}
-use Rattle.layout.specs.Layout.{signedOf, bytesOf, recordsOf}
+use Rattle.layout.specs.Layout.{signedOf, bytesOf, allFieldsOf}
 
 -- "passes heights and records as bytes, in the file's layouts": "Heights and key heights are signed 32-bit two's
 -- complement; all is little-endian."
@@ -42,7 +42,7 @@ suiteAnswer rows bytes work table needed =
 
 -- "A refusal [..] writes nothing"; "On success [..] bytes [..] beyond those counted stay as they were."
 abbrev pub suiteTable : ℤ → List Entry → List ℕ → List ℕ
-suiteTable (pos n) list table = bytesOf (recordsOf (map recordOf list)) ++ drop (16 * n) table
+suiteTable (pos n) list table = bytesOf (allFieldsOf (map recordOf list)) ++ drop (16 * n) table
 suiteTable (negsuc n) list table = table
 
 -- The list of the definition is there for every grid and is one (`list-exists`, `order-unique` of `theorems`). The

@@ -8,7 +8,7 @@ use native.Mathlib.Omega.{arith}
 use denote.Ref.{now}
 use lib.ListN.{length}
 use Rattle.record.specs.declared.Peak.{Peak}
-use Rattle.layout.specs.Layout.{totalOf, bytesOf, recordOf}
+use Rattle.layout.specs.Layout.{totalOf, bytesOf, fieldsOf}
 use Rattle.layout.specs.Steps.{over, Puttable, laid}
 use Rattle.layout.proofs.Over.{laid-start, laid-length, laid-step}
 use Rattle.meter.specs.Metered.{peakOf, peaksOf}
@@ -41,14 +41,14 @@ module _ {s : List ℕ} {cells : ℕ} (records : List ℕ) {count : ℕ} (can : 
         ]
 
     lay-on : {u : List ℕ} {p : Peak} → i < count → p ≡ peakOf records i
-        → u ≡ over t (totalOf cells i) (bytesOf (recordOf p)) → Lays s cells records count u (i + 1)
+        → u ≡ over t (totalOf cells i) (bytesOf (fieldsOf p)) → Lays s cells records count u (i + 1)
     lay-on {u} {p} l e q =
         let few = lay-few in
         let in-row : i < length (row records) = omega (arith, can .records) in
         let same = e ∙ sym (peaks-at records (length records / 16) i (omega arith)) in (
           omega arith,
-          q ∙ ap (λ (x : List ℕ). over x (totalOf cells i) (bytesOf (recordOf p))) (h .1)
-              ∙ ap (λ (x : Peak). over (laid s cells (row records) i) (totalOf cells i) (bytesOf (recordOf x))) same
+          q ∙ ap (λ (x : List ℕ). over x (totalOf cells i) (bytesOf (fieldsOf p))) (h .1)
+              ∙ ap (λ (x : Peak). over (laid s cells (row records) i) (totalOf cells i) (bytesOf (fieldsOf x))) same
               ∙ laid-step s cells (row records) i (omega arith) (omega (arith, can .long (omega arith))) in-row,
         )
 

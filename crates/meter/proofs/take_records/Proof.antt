@@ -5,17 +5,17 @@ use mathlib.Core.Path.{refl}
 use Prim.Native.Nat.{ℕ, _-_}
 use native.Mathlib.Omega.{arith}
 use denote.Ref.{now}
-use Rattle.layout.specs.Layout.{recordIn, recordsIn}
+use Rattle.layout.specs.Layout.{recordFrom, recordsFrom}
 use Rattle.layout.proofs.TableBytes.{Grows, Puts, puts-start, puts-length, puts-step, puts-done}
 use Rattle.meter.proofs.take_records.Statement.{statement}
 use Rattle.meter.proofs.take_records.Tie as tie
 
-file-grows : (f : List ℕ) (cells : ℕ) → Grows (recordsIn f cells) (recordIn f cells)
-unfolding recordsIn
+file-grows : (f : List ℕ) (cells : ℕ) → Grows (recordsFrom f cells) (recordFrom f cells)
+unfolding recordsFrom
 file-grows f cells = record { start = refl; next = λ i. refl }
 
 abbrev Inv-loop : tie.InvT-loop
-Inv-loop table₀ file cells count i₀ table i = Puts table₀ (recordsIn file cells) count table i
+Inv-loop table₀ file cells count i₀ table i = Puts table₀ (recordsFrom file cells) count table i
 
 abbrev μ-loop : tie.MeasureT-loop
 μ-loop table₀ file cells count i₀ table i = count - i
@@ -23,8 +23,8 @@ abbrev μ-loop : tie.MeasureT-loop
 loop-holds : tie.Need-loop-holds Inv-loop μ-loop
 loop-holds c = let a = c .before .before .args in puts-start (file-grows (now (a .file)) (a .cells))
 
-record-in-requires : tie.Need-record-in-requires Inv-loop μ-loop
-record-in-requires c κs =
+record-from-requires : tie.Need-record-from-requires Inv-loop μ-loop
+record-from-requires c κs =
     let at-loop = c .before .before in
     let long = at-loop .before .before .before .pre .1 (omega arith) in
     omega arith
@@ -50,7 +50,7 @@ loop-again c =
     let at-entry = at-loop .before .before .before in
     let a = at-entry .args in
     puts-step (file-grows (now (a .file)) (a .cells)) (at-entry .pre .0) (at-loop .loop .inv)
-    (at-test .loop-test .taken) (at-put .before .record-in .ensures) (at-put .lay-record .ensures)
+    (at-test .loop-test .taken) (at-put .before .record-from .ensures) (at-put .lay-record .ensures)
 
 same-length : tie.Need-same-length Inv-loop μ-loop
 same-length c =
@@ -68,7 +68,7 @@ take-records-spec =
     Inv-loop
     μ-loop
     loop-holds
-    record-in-requires
+    record-from-requires
     lay-record-requires
     add-i
     loop-less

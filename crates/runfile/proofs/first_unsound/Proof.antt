@@ -24,12 +24,12 @@ use denote.Triple.Spec.{Meets, tripleOf}
 use denote.Triple.Table.{entered, cited}
 use denote.Triple.Walked.{goes-none-slice, Walks, walked, walk-meets}
 use denote.Exit.{yes as kept}
-use Rattle.layout.proofs.soundness.scan.Symbol as scan-def
-use Rattle.layout.proofs.soundness.scan.Symbol.{name as #layout·scan}
-use Rattle.layout.proofs.soundness.scan.Met as scan-thm
-use Rattle.layout.proofs.soundness.scanned.Symbol as scanned-def
-use Rattle.layout.proofs.soundness.scanned.Symbol.{name as #layout·scanned}
-use Rattle.layout.proofs.soundness.scanned.Met as scanned-thm
+use Rattle.sound.proofs.scan.Symbol as scan-def
+use Rattle.sound.proofs.scan.Symbol.{name as #sound·scan}
+use Rattle.sound.proofs.scan.Met as scan-thm
+use Rattle.sound.proofs.scanned.Symbol as scanned-def
+use Rattle.sound.proofs.scanned.Symbol.{name as #sound·scanned}
+use Rattle.sound.proofs.scanned.Met as scanned-thm
 use Rattle.runfile.proofs.first_unsound.Proof.End.{R, stayed}
 use Rattle.runfile.proofs.first_unsound.Proof.ScanCalls.{ScanC, ScannedC}
 use Rattle.runfile.proofs.first_unsound.Proof.Walk.{walk}
@@ -39,8 +39,8 @@ use Rattle.runfile.proofs.first_unsound.Statement as stated
 use Rattle.runfile.proofs.first_unsound.Code as code
 
 module _ {M : Type 1} (𝓤 : URA M) (H : Heap 𝓤) (A : Atoms 𝓤) (W : Given 𝓤 H A) (mem : Memory → SProp 𝓤)
-    (run : Routine → Fun 𝓤) (𝓣 : Tables 𝓤 H) (known-scan : Triple 𝓤 (𝓣 .C #layout·scan) (ScanC 𝓤 H A mem run))
-    (known-scanned : Triple 𝓤 (𝓣 .C #layout·scanned) (ScannedC 𝓤 H A mem run)) where
+    (run : Routine → Fun 𝓤) (𝓣 : Tables 𝓤 H) (known-scan : Triple 𝓤 (𝓣 .C #sound·scan) (ScanC 𝓤 H A mem run))
+    (known-scanned : Triple 𝓤 (𝓣 .C #sound·scanned) (ScannedC 𝓤 H A mem run)) where
   unsound-walks :
       Walks 𝓤 H A unsound.ended stayed (WpFn 𝓤 H (𝓣 .C) (𝓣 .Λ) code.function) (unsound.clauses 𝓤 H A mem run)
   unsound-walks =
@@ -67,7 +67,7 @@ first-unsound-spec 𝓤 H 𝓜 𝓖 𝓡 =
     (tables 𝓤 H 𝓜 𝓡 code.env .C) (tables 𝓤 H 𝓜 𝓡 code.env .Λ) #runfile·first-unsound code.function
     (code.unfolded 𝓤 H 𝓜 𝓡)
     (unsound-meets 𝓤 H (𝓖 .A) (givenOf 𝓤 H 𝓜 𝓖) (𝓜 .mem) (𝓡 .run) (tablesOf 𝓤 H 𝓜 (tables 𝓤 H 𝓜 𝓡 code.env))
-    (cited 𝓤 H (ScanC 𝓤 H (𝓖 .A) (𝓜 .mem) (𝓡 .run)) 𝓜 𝓡 code.env #layout·scan scan-def.routine
-    code.calls-layout·scan (scan-thm.met 𝓤 H 𝓜 𝓖 𝓡))
-    (cited 𝓤 H (ScannedC 𝓤 H (𝓖 .A) (𝓜 .mem) (𝓡 .run)) 𝓜 𝓡 code.env #layout·scanned scanned-def.routine
-    code.calls-layout·scanned (scanned-thm.met 𝓤 H 𝓜 𝓖 𝓡)))
+    (cited 𝓤 H (ScanC 𝓤 H (𝓖 .A) (𝓜 .mem) (𝓡 .run)) 𝓜 𝓡 code.env #sound·scan scan-def.routine
+    code.calls-sound·scan (scan-thm.met 𝓤 H 𝓜 𝓖 𝓡))
+    (cited 𝓤 H (ScannedC 𝓤 H (𝓖 .A) (𝓜 .mem) (𝓡 .run)) 𝓜 𝓡 code.env #sound·scanned scanned-def.routine
+    code.calls-sound·scanned (scanned-thm.met 𝓤 H 𝓜 𝓖 𝓡)))

@@ -26,10 +26,10 @@ use denote.Triple.Spec.{Meets, tripleOf}
 use denote.Triple.Table.{entered, cited}
 use denote.Triple.Walked.{needs, goes-none, goes-slice, goes-none-slice, Walks, walked, walk-meets}
 use denote.Exit.{yes as kept}
-use Rattle.layout.specs.Steps.{Puttable}
-use Rattle.layout.proofs.writer.put_record.Symbol as put-one-def
-use Rattle.layout.proofs.writer.put_record.Symbol.{name as #layout·put-record}
-use Rattle.layout.proofs.writer.put_record.Met as put-one-thm
+use Rattle.layout.specs.Inner.{Puttable}
+use Rattle.layout.proofs.records.put_record.Symbol as put-one-def
+use Rattle.layout.proofs.records.put_record.Symbol.{name as #layout·put-record}
+use Rattle.layout.proofs.records.put_record.Met as put-one-thm
 use Rattle.runfile.proofs.put_records.Proof.End.{R, stayed}
 use Rattle.runfile.proofs.put_records.Proof.PutCall.{PutOne}
 use Rattle.runfile.proofs.put_records.Proof.Walk.{walk}

@@ -51,7 +51,7 @@ use Rattle.record.specs.declared.Peak.{Peak}
 use Rattle.record.proofs.Peak as T
 use Rattle.table.proofs.Locals.{localAt, copied, release}
 use Rattle.layout.specs.declared.ReadBack.{ReadBack}
-use Rattle.layout.specs.Steps.{cellsToTake, recordsToTake}
+use Rattle.layout.specs.Inner.{cellsToTake, recordsToTake}
 use Rattle.layout.proofs.ReadBack as S
 use Rattle.layout.proofs.ReadBack.Laws as S′
 use Rattle.layout.proofs.reader.take_grid.Symbol.{name as #layout·take-grid}
@@ -121,9 +121,9 @@ module _ {M : Type 1} (𝓤 : URA M) (H : Heap 𝓤) (A : Atoms 𝓤) (W : Given
       suffices ! _ (ends-at 𝓤 H A read.ended stayed (read.clauses 𝓤 H A mem run) W bound u r
       (tt, (zs, (ts, tt))) (tt, (left .0, (filled .0, tt)))) $
       says ! (record {
-        judged = left .1 .judged;
+        answer = left .1 .answer;
         heights = left .1 .heights;
-        table = filled .1 ∙ taken (f .now) (length (h .now)) (t .now) r (left .1 .judged);
+        table = filled .1 ∙ taken (f .now) (length (h .now)) (t .now) r (left .1 .answer);
       }) $
       nothing ! $ move ! (3 ∷ 0 ∷ []) $ join ! $ move ! (2 ∷ 0 ∷ []) $ join ! $ move ! (1 ∷ 0 ∷ []) $ join ! $ frame ! $
       -- [the file; the heights' last list; the table's]
@@ -183,10 +183,10 @@ module _ {M : Type 1} (𝓤 : URA M) (H : Heap 𝓤) (A : Atoms 𝓤) (W : Given
         (from ! (stop !)) (init ! (loc 6 12) refl (tt, (tt, (record { fits = t-room .0 }, tt)))) $
         move ! (5 ∷ 4 ∷ 0 ∷ 1 ∷ []) $
         calls-take 𝓤 H A W mem run κ₂ q₂ t κ₀ q₀ f (cellsToTake r) (recordsToTake r) ! fm known-take
-        (takable (f .now) (length (h .now)) (t .now) r (left .1 .judged)) n-fits k-fits
+        (takable (f .now) (length (h .now)) (t .now) r (left .1 .answer)) n-fits k-fits
         (and-then ! (copied ! (loc 4 12) refl) (and-then ! (copied ! (loc 4 1) refl)
         (and-then ! (copied ! (loc 4 5) refl) (and-then ! (copied ! (loc 4 6) refl) (no-more !)))))
-        (λ v v-typed ts filled.
+        (λ v v-typed ts filledFrom.
         land ! (from ! (stop !)) (init ! (loc 6 10) refl v-typed) $
         -- [the table's last list; token 2; the file; token 0; the heights' last list; token 1; _12; …]
         assigns ! (of-opd ! (copied ! (loc 6 4) refl)) (from ! (stop !))
@@ -198,7 +198,7 @@ module _ {M : Type 1} (𝓤 : URA M) (H : Heap 𝓤) (A : Atoms 𝓤) (W : Given
         release ! (loc 6 9) refl refl $ release ! (loc 6 10) refl refl $ release ! (loc 6 11) refl refl $
         release ! (loc 6 12) refl refl $ free0 ! $
         move ! (3 ∷ 5 ∷ 1 ∷ 2 ∷ 4 ∷ 0 ∷ []) $
-        by ! (exits r u is zs left ts filled))))))))))))))))))
+        by ! (exits r u is zs left ts filledFrom))))))))))))))))))
 
 module _ {M : Type 1} (𝓤 : URA M) (H : Heap 𝓤) (A : Atoms 𝓤) (W : Given 𝓤 H A) (mem : Memory → SProp 𝓤)
     (run : Routine → Fun 𝓤) (𝓣 : Tables 𝓤 H) (known-grid : Triple 𝓤 (𝓣 .C #layout·take-grid) (TakeGrid 𝓤 H A mem run))

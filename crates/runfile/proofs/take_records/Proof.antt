@@ -1,5 +1,5 @@
 -- `runfile::take_records` meets its contract: its walk (`Proof/Walk.antt`) is taken to the contract. All that is known
--- of `record_in` is its contract. Assumes nothing.
+-- of `record_from` is its contract. Assumes nothing.
 mod End
 mod RecordCall
 mod Turn
@@ -26,12 +26,12 @@ use denote.Triple.Spec.{Meets, tripleOf}
 use denote.Triple.Table.{entered, cited}
 use denote.Triple.Walked.{needs, goes-none, goes-slice, goes-none-slice, Walks, walked, walk-meets}
 use denote.Exit.{yes as kept}
-use Rattle.layout.specs.Steps.{Takable}
-use Rattle.layout.proofs.records.record_in.Symbol as record-in-def
-use Rattle.layout.proofs.records.record_in.Symbol.{name as #layout·record-in}
-use Rattle.layout.proofs.records.record_in.Met as record-in-thm
+use Rattle.layout.specs.Inner.{Takable}
+use Rattle.layout.proofs.records.record_from.Symbol as record-from-def
+use Rattle.layout.proofs.records.record_from.Symbol.{name as #layout·record-from}
+use Rattle.layout.proofs.records.record_from.Met as record-from-thm
 use Rattle.runfile.proofs.take_records.Proof.End.{R, stayed}
-use Rattle.runfile.proofs.take_records.Proof.RecordCall.{RecordIn}
+use Rattle.runfile.proofs.take_records.Proof.RecordCall.{RecordFrom}
 use Rattle.runfile.proofs.take_records.Proof.Walk.{walk}
 use Rattle.runfile.proofs.take_records.Key.{name as #runfile·take-records}
 use Rattle.runfile.proofs.take_records as take
@@ -39,7 +39,8 @@ use Rattle.runfile.proofs.take_records.Statement as stated
 use Rattle.runfile.proofs.take_records.Code as code
 
 module _ {M : Type 1} (𝓤 : URA M) (H : Heap 𝓤) (A : Atoms 𝓤) (W : Given 𝓤 H A) (mem : Memory → SProp 𝓤)
-    (run : Routine → Fun 𝓤) (𝓣 : Tables 𝓤 H) (known : Triple 𝓤 (𝓣 .C #layout·record-in) (RecordIn 𝓤 H A mem run)) where
+    (run : Routine → Fun 𝓤) (𝓣 : Tables 𝓤 H)
+    (known : Triple 𝓤 (𝓣 .C #layout·record-from) (RecordFrom 𝓤 H A mem run)) where
   take-walks : Walks 𝓤 H A take.ended stayed (WpFn 𝓤 H (𝓣 .C) (𝓣 .Λ) code.function) (take.clauses 𝓤 H A mem run)
   take-walks =
       walked 𝓤 H A take.ended stayed (take.clauses 𝓤 H A mem run) (WpFn 𝓤 H (𝓣 .C) (𝓣 .Λ) code.function)
@@ -75,5 +76,5 @@ take-records-spec 𝓤 H 𝓜 𝓖 𝓡 =
     (tables 𝓤 H 𝓜 𝓡 code.env .C) (tables 𝓤 H 𝓜 𝓡 code.env .Λ) #runfile·take-records code.function
     (code.unfolded 𝓤 H 𝓜 𝓡)
     (take-meets 𝓤 H (𝓖 .A) (givenOf 𝓤 H 𝓜 𝓖) (𝓜 .mem) (𝓡 .run) (tablesOf 𝓤 H 𝓜 (tables 𝓤 H 𝓜 𝓡 code.env))
-    (cited 𝓤 H (RecordIn 𝓤 H (𝓖 .A) (𝓜 .mem) (𝓡 .run)) 𝓜 𝓡 code.env #layout·record-in record-in-def.routine
-    code.calls-layout·record-in (record-in-thm.met 𝓤 H 𝓜 𝓖 𝓡)))
+    (cited 𝓤 H (RecordFrom 𝓤 H (𝓖 .A) (𝓜 .mem) (𝓡 .run)) 𝓜 𝓡 code.env #layout·record-from record-from-def.routine
+    code.calls-layout·record-from (record-from-thm.met 𝓤 H 𝓜 𝓖 𝓡)))

@@ -53,10 +53,10 @@ use Rattle.record.specs.declared.Peak.{Peak}
 use Rattle.record.proofs.Peak as T
 use Rattle.table.proofs.Locals.{localAt, copied, release}
 use Rattle.layout.specs.declared.Written.{Written}
-use Rattle.layout.specs.Sound.{FirstUnsound}
-use Rattle.layout.specs.Steps.{putOf}
+use Rattle.sound.specs.Sound.{FirstUnsound}
+use Rattle.layout.specs.Inner.{putOf}
 use Rattle.layout.proofs.Room.{grid-puttable, grid-written}
-use Rattle.layout.proofs.Sound.{first-few}
+use Rattle.sound.proofs.Scans.{first-few}
 use Rattle.layout.proofs.Written as S
 use Rattle.layout.proofs.Written.Laws as S′
 use Rattle.layout.proofs.writer.put_grid.Symbol.{name as #layout·put-grid}
@@ -134,7 +134,7 @@ module _ {M : Type 1} (𝓤 : URA M) (H : Heap 𝓤) (A : Atoms 𝓤) (W : Given
       says ! (record {
         unsound = k;
         first = found;
-        answer = left .1 .answer;
+        answered = left .1 .answered;
         room = grid-written rows (h .now) (t .now) k ys zs w ts (left .1) (put-left .1);
       }) $
       nothing ! $ move ! (3 ∷ 0 ∷ []) $ join ! $ move ! (2 ∷ 0 ∷ []) $ join ! $ move ! (1 ∷ 0 ∷ []) $ join ! $ frame ! $

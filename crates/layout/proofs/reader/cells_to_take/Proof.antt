@@ -1,12 +1,12 @@
 -- `layout::cells_to_take` meets its contract, case by case. Assumes nothing.
 use mathlib.Core.Path.{sym, ap, _∙_}
 use borrow.Author.Needs.{needs}
-use Rattle.layout.specs.Steps.{cellsToTake}
+use Rattle.layout.specs.Inner.{cellsToTake}
 use Rattle.layout.proofs.reader.cells_to_take.Statement.{statement}
 use Rattle.layout.proofs.reader.cells_to_take.Tie as tie
 
 returns : tie.Need-returns
-returns c = c .cells-of .ensures ∙ ap cellsToTake (sym (c .before .before .answer .given .1))
+returns c = c .grid-cells .ensures ∙ ap cellsToTake (sym (c .before .before .answer .given .1))
 
 pub cells-to-take-spec : {M : Type 1} → statement M
 cells-to-take-spec =

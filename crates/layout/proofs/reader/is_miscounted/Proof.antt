@@ -8,7 +8,7 @@ use lib.Dec.{eqb}
 use borrow.Author.Needs.{needs}
 use Rattle.words.specs.Words.{wordAt}
 use Rattle.layout.specs.Layout.{totalOf}
-use Rattle.layout.specs.Reading.{miscounted}
+use Rattle.layout.specs.Promises.{miscounted}
 use Rattle.layout.proofs.reader.is_miscounted.Statement.{statement}
 use Rattle.layout.proofs.reader.is_miscounted.Tie as tie
 

@@ -11,30 +11,30 @@ use borrow.Author.Needs.{needs}
 use Rattle.layout.specs.declared.ReadBack.{ReadBack}
 use Rattle.layout.specs.declared.ReadBack.the-variants.{Run, Refused}
 use Rattle.layout.specs.Layout.{cellsIn, heightsIn}
-use Rattle.layout.specs.Reading.{Judges, lentOf}
-use Rattle.layout.specs.Steps.{cellsToTake}
+use Rattle.layout.specs.Promises.{ReadAnswers, lentAfter}
+use Rattle.layout.specs.Inner.{cellsToTake}
 use Rattle.layout.proofs.ReadAnswer.{read-readable, read-same}
 use Rattle.layout.proofs.reader.take_grid.Statement.{statement}
 use Rattle.layout.proofs.reader.take_grid.Tie as tie
 
 module _ (f : List ℕ) (heights table : ℕ) where
   enough :
-      (a : ReadBack) → Judges f heights table a →
+      (a : ReadBack) → ReadAnswers f heights table a →
       (0 < cellsToTake a → 24 + 4 * cellsToTake a ≤ length f) × (cellsToTake a ≤ heights)
   enough (Run rows columns peaks) j =
-      let r = read-readable f heights table (j .unsound) (sym (j .answer)) in
-      let cells = ap cellsToTake (read-same f heights table (j .unsound) (sym (j .answer))) in
-      (λ h. omega (arith, r .total, r .counted .total, cells), omega (arith, r .room, cells))
+      let r = read-readable f heights table (j .unsound) (j .answered) in
+      let cells = ap cellsToTake (read-same f heights table (j .unsound) (j .answered)) in
+      (λ h. omega (arith, r .whole .total, r .whole .counted .total, cells), omega (arith, r .room, cells))
   enough (Refused r) j = (λ h. absurd (omega arith), omega arith)
 
   taken :
-      (hs : List ℤ) (a : ReadBack) → Judges f heights table a →
+      (hs : List ℤ) (a : ReadBack) → ReadAnswers f heights table a →
       heightsIn f (cellsToTake a) ++ drop (cellsToTake a) hs
-      ≡ lentOf a (heightsIn f (cellsIn f) ++ drop (cellsIn f) hs) hs
+      ≡ lentAfter a (heightsIn f (cellsIn f) ++ drop (cellsIn f) hs) hs
   unfolding heightsIn
   taken hs (Run rows columns peaks) j =
       ap (λ (n : ℕ). heightsIn f n ++ drop n hs)
-      (ap cellsToTake (read-same f heights table (j .unsound) (sym (j .answer))))
+      (ap cellsToTake (read-same f heights table (j .unsound) (j .answered)))
   taken hs (Refused r) j = refl
 
 take-heights-requires : tie.Need-take-heights-requires
@@ -51,7 +51,7 @@ returns c =
     let args = c4 .before .before .args in
     let judge = c4 .judge in
     record {
-      judged = judge .ensures;
+      answer = judge .ensures;
       heights =
           c .before .take-heights .ensures
           ∙ ap (λ (n : ℕ). heightsIn (now (args .file)) n ++ drop n (now (args .heights)))

@@ -3,7 +3,8 @@
 use denote.Ref.{now}
 use borrow.Author.Needs.{needs}
 use Rattle.layout.specs.Layout.{heightsIn}
-use Rattle.layout.proofs.Rows.{fetched, heights-length}
+use Rattle.sound.proofs.Cells.{fetched}
+use Rattle.layout.proofs.Rows.{heights-length}
 use Rattle.layout.proofs.soundness.is_sound_in.Statement.{statement}
 use Rattle.layout.proofs.soundness.is_sound_in.Tie as tie
 

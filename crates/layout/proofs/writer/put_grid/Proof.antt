@@ -9,7 +9,8 @@ use lib.IntN.{ℤ}
 use lib.ListN.{length}
 use borrow.Author.Needs.{needs}
 use Rattle.layout.specs.Layout.{bitsOf, bytesOf, headerOf}
-use Rattle.layout.specs.Steps.{over}
+use Rattle.layout.specs.Promises.{writtenTold}
+use Rattle.layout.specs.Inner.{over}
 use Rattle.layout.proofs.Over.{over-over}
 use Rattle.layout.proofs.Rows.{bytes-length, bytes-append}
 use Rattle.layout.proofs.WriteAnswer.{Writable, written-writable}
@@ -27,7 +28,8 @@ writable c =
     let c4 = c .before .before .before .before in
     let args = c4 .args in
     written-writable (args .rows) (length (now (args .heights))) (args .n) (args .unsound) (length (now (args .room)))
-    (sym (c .before .before .plan .ensures) ∙ c .enum-told2 .given .1)
+    _
+    (ap writtenTold (sym (c .enum-told2 .given .1)) ∙ c .before .before .plan .ensures)
 
 laid-both :
     (s t u : List ℕ) (rows n : ℕ) (hs : List ℤ) → 24 ≤ length s →
@@ -46,7 +48,7 @@ put-header-requires c κs =
     let c4 = c .before .before .before .before in
     let w = writable (c .before) in
     let start = c4 .before in
-    (w .long, (omega (arith, w .sound, w .fit, start .pre .few), omega (arith, w .some)))
+    (w .long, (omega (arith, w .sound, w .grid .fit, start .pre .few), omega (arith, w .grid .some)))
 
 put-heights-requires : tie.Need-put-heights-requires
 put-heights-requires c κs =
@@ -64,7 +66,7 @@ returns-2 c =
     let header = c4 .before .before .put-header in
     let heights = c .before .before .put-heights in
     record {
-      answer = c8 .before .before .plan .ensures;
+      answered = c8 .before .before .plan .ensures;
       room =
           rw (told .enum-told2 .given .1)
           (laid-both (now (args .room)) (header .last .0) (heights .last .0) (args .rows) (args .n)

@@ -13,7 +13,7 @@ use mir.Syntax.{w32}
 use mir.ValLaws.{toZ-ofZ}
 use borrow.Author.Needs.{needs}
 use Rattle.layout.specs.Layout.{bitsOf, wordOf, bytesOf}
-use Rattle.layout.specs.Steps.{over}
+use Rattle.layout.specs.Inner.{over}
 use Rattle.layout.proofs.Over.{over-nil, over-next, over-length}
 use Rattle.layout.proofs.Rows.{bytes-length}
 use Rattle.layout.proofs.writer.put_heights.Statement.{statement}

@@ -35,7 +35,7 @@ use denote.Triple.Walked.{says, Stays, stay-none-slice, walkOf, ends-at}
 use denote.Exit.{yes as kept}
 use Rattle.record.specs.declared.Peak.{Peak}
 use Rattle.record.proofs.Peak as T
-use Rattle.layout.specs.Sound.{FirstUnsound}
+use Rattle.sound.specs.Sound.{FirstUnsound}
 use Rattle.runfile.proofs.first_unsound as unsound
 use Rattle.runfile.proofs.first_unsound.Proof.ScanCalls.{heightsVal, Hts}
 

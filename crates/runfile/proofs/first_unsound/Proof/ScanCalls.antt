@@ -44,11 +44,11 @@ use Rattle.record.specs.declared.Peak.{Peak}
 use Rattle.record.proofs.Peak as T
 use Rattle.record.proofs.Peak.Laws as T′
 use Rattle.table.proofs.Locals.{lands-number, calls-number}
-use Rattle.layout.specs.Steps.{Scans, scannedOf}
-use Rattle.layout.proofs.soundness.scan as scan
-use Rattle.layout.proofs.soundness.scan.Symbol.{name as #layout·scan}
-use Rattle.layout.proofs.soundness.scanned as scanned
-use Rattle.layout.proofs.soundness.scanned.Symbol.{name as #layout·scanned}
+use Rattle.sound.specs.Inner.{Scans, scannedOf}
+use Rattle.sound.proofs.scan as scan
+use Rattle.sound.proofs.scan.Symbol.{name as #sound·scan}
+use Rattle.sound.proofs.scanned as scanned
+use Rattle.sound.proofs.scanned.Symbol.{name as #sound·scanned}
 
 module _ {M : Type 1} (𝓤 : URA M) (H : Heap 𝓤) (A : Atoms 𝓤) (mem : Memory → SProp 𝓤) (run : Routine → Fun 𝓤) where
   abbrev pub ScanC : Contract 𝓤
@@ -99,13 +99,13 @@ module _ {M : Type 1} (𝓤 : URA M) (H : Heap 𝓤) (A : Atoms 𝓤) (W : Given
 
   module _ {K : Type 0} {Γ : List (Item 𝓤)} {E : Env 𝓤 H} {C : Calls 𝓤 H} {Λ : Loops 𝓤 H} {post : Post 𝓤 H}
       {xs : List Operand} {d : Place} {rest : Body} where
-    pub calls-scan : K → FmC 𝓤 H (W .laws) C → Triple 𝓤 (C #layout·scan) (ScanC 𝓤 H A mem run)
+    pub calls-scan : K → FmC 𝓤 H (W .laws) C → Triple 𝓤 (C #sound·scan) (ScanC 𝓤 H A mem run)
         → state < 2 ^ 64 → i < 1152921504606846976 → Is T.the-row p (u ∷ [])
         → Opds K W (raw (ScanC 𝓤 H A mem run .pre to-scan) ∷ ‵ (Hts κ h) ∷ Γ) E xs
         (heightsVal h ∷ vint w64 state ∷ vint w64 i ∷ u ∷ [])
         → ((k : ℕ) → k < 2 ^ 64 → Scans (h .now) state i p k
         → Seq K W (‵ (flft κ q) ∷ ‵ (Hts κ h) ∷ Γ) (lands C Λ E d (vint w64 k) rest post))
-        → Seq K W (‵ (flft κ q) ∷ ‵ (Hts κ h) ∷ Γ) (runs C Λ E (seq (call #layout·scan xs d) rest) post)
+        → Seq K W (‵ (flft κ q) ∷ ‵ (Hts κ h) ∷ Γ) (runs C Λ E (seq (call #sound·scan xs d) rest) post)
     calls-scan t fm known fits few is os after =
         move t (1 ∷ []) $
         use1 W (‵ (Hts κ h) ⊛ ‵ (Hts κ h)) (shr-slice-copy 𝓤 H A W (named 0) κ i32 .twice h (heightsVal h ∷ [])) $
@@ -140,11 +140,11 @@ module _ {M : Type 1} (𝓤 : URA M) (H : Heap 𝓤) (A : Atoms 𝓤) (W : Given
 
   module _ {K : Type 0} {Γ : List (Item 𝓤)} {E : Env 𝓤 H} {C : Calls 𝓤 H} {Λ : Loops 𝓤 H} {post : Post 𝓤 H}
       {xs : List Operand} {d : Place} {rest : Body} where
-    pub calls-scanned : K → FmC 𝓤 H (W .laws) C → Triple 𝓤 (C #layout·scanned) (ScannedC 𝓤 H A mem run)
+    pub calls-scanned : K → FmC 𝓤 H (W .laws) C → Triple 𝓤 (C #sound·scanned) (ScannedC 𝓤 H A mem run)
         → state < 2 ^ 64 → n < 2 ^ 64
         → Opds K W (raw (ScannedC 𝓤 H A mem run .pre to-scanned) ∷ Γ) E xs (vint w64 state ∷ vint w64 n ∷ [])
         → (scannedOf state n < 2 ^ 64 → Seq K W Γ (lands C Λ E d (vint w64 (scannedOf state n)) rest post))
-        → Seq K W Γ (runs C Λ E (seq (call #layout·scanned xs d) rest) post)
+        → Seq K W Γ (runs C Λ E (seq (call #sound·scanned xs d) rest) post)
     calls-scanned t fm known fits n-fits os after =
         calls-number t fm (ScannedC 𝓤 H A mem run) known to-scanned (scannedOf state n)
         (ensured 𝓤 H A scanned.ended (scanned.clauses 𝓤 H A mem run) tt (state, (n, tt)) tt) (goes-scanned fits n-fits)

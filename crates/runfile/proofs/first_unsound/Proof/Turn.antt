@@ -14,7 +14,7 @@ use lib.IntN.{ℤ}
 use lib.ListN.{length}
 use lib.WfN.{Nat·lt-wfRel}
 use Rattle.record.specs.declared.Peak.{Peak}
-use Rattle.layout.proofs.Sound.{Scanned, scanned-start}
+use Rattle.sound.proofs.Scans.{Scanned, scanned-start}
 
 pub record Turn (hs : List ℤ) (ps : List Peak) : Type 0 where
   pub i : ℕ

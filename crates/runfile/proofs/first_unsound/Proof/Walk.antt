@@ -55,11 +55,11 @@ use Rattle.record.proofs.Peak.Laws as T′
 use Rattle.record.specs.Records.{withoutKey}
 use Rattle.table.proofs.Locals.{localAt, copied, release}
 use Rattle.table.proofs.Upto.{bytes-fit}
-use Rattle.layout.specs.Sound.{recordAt}
-use Rattle.layout.specs.Steps.{scannedOf}
-use Rattle.layout.proofs.Sound.{scanned-step, scanned-done}
-use Rattle.layout.proofs.soundness.scan.Symbol.{name as #layout·scan}
-use Rattle.layout.proofs.soundness.scanned.Symbol.{name as #layout·scanned}
+use Rattle.sound.specs.Sound.{ithOf}
+use Rattle.sound.specs.Inner.{scannedOf}
+use Rattle.sound.proofs.Scans.{scanned-step, scanned-done}
+use Rattle.sound.proofs.scan.Symbol.{name as #sound·scan}
+use Rattle.sound.proofs.scanned.Symbol.{name as #sound·scanned}
 use Rattle.runfile.proofs.first_unsound as unsound
 use Rattle.runfile.proofs.first_unsound.Proof.End.{R, recordsVal, Recs, args, vals, Ended, exits}
 use Rattle.runfile.proofs.first_unsound.Proof.ScanCalls.{ScanC, ScannedC, heightsVal, Hts, calls-scan}
@@ -106,8 +106,8 @@ module _ {M : Type 1} (𝓤 : URA M) (H : Heap 𝓤) (A : Atoms 𝓤) (W : Given
   abbrev Upto : Type 0
   Upto = Turn (h .now) ys
 
-  module _ (𝓣 : Tables 𝓤 H) (known-scan : Triple 𝓤 (𝓣 .C #layout·scan) (ScanC 𝓤 H A mem run))
-      (known-scanned : Triple 𝓤 (𝓣 .C #layout·scanned) (ScannedC 𝓤 H A mem run))
+  module _ (𝓣 : Tables 𝓤 H) (known-scan : Triple 𝓤 (𝓣 .C #sound·scan) (ScanC 𝓤 H A mem run))
+      (known-scanned : Triple 𝓤 (𝓣 .C #sound·scanned) (ScannedC 𝓤 H A mem run))
       (l₀ l₁ l₂ l₃ l₄ l₅ l₆ l₇ l₈ l₉ : ℕ) where
     abbrev C : Calls 𝓤 H
     C = 𝓣 .C
@@ -140,7 +140,7 @@ module _ {M : Type 1} (𝓤 : URA M) (H : Heap 𝓤) (A : Atoms 𝓤) (W : Given
 
     -- a turn that looks at one record
     more : (t : Upto) → t .i < length ys → Sq W (At t) (runs C Λ En body.turn-1 (anyQ (Turned t)))
-    unfolding afterTurn recordAt
+    unfolding afterTurn ithOf
     more t less =
         assigns ! (bin ! (copied ! (loc 5 5) refl) (copied ! (loc 5 3) refl) tt) (from ! (stop !))
         (init ! (loc 5 6) refl (tt, tt)) $
@@ -220,8 +220,8 @@ module _ {M : Type 1} (𝓤 : URA M) (H : Heap 𝓤) (A : Atoms 𝓤) (W : Given
     ]
 
   -- the MIR up to the loop
-  pub walk : (𝓣 : Tables 𝓤 H) (known-scan : Triple 𝓤 (𝓣 .C #layout·scan) (ScanC 𝓤 H A mem run))
-      (known-scanned : Triple 𝓤 (𝓣 .C #layout·scanned) (ScannedC 𝓤 H A mem run))
+  pub walk : (𝓣 : Tables 𝓤 H) (known-scan : Triple 𝓤 (𝓣 .C #sound·scan) (ScanC 𝓤 H A mem run))
+      (known-scanned : Triple 𝓤 (𝓣 .C #sound·scanned) (ScannedC 𝓤 H A mem run))
       → ent 𝓤 (onEntry 𝓤 H A unsound.signature (κ₀, (κ₁, tt)) (q₀, (q₁, tt)) (args h r) (vals h r))
       (WpFn 𝓤 H (𝓣 .C) (𝓣 .Λ) code.function (heightsVal h ∷ recordsVal r ∷ []) Post)
   walk 𝓣 known-scan known-scanned =

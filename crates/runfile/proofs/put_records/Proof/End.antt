@@ -34,7 +34,7 @@ use denote.Triple.Walked.{says, Stays, stay-none, stay-slice, stay-none-slice, w
 use denote.Exit.{yes as kept}
 use Rattle.record.specs.declared.Peak.{Peak}
 use Rattle.record.proofs.Peak as T
-use Rattle.layout.specs.Steps.{laid}
+use Rattle.layout.specs.Inner.{laid}
 use Rattle.runfile.proofs.put_records as put
 use Rattle.runfile.proofs.put_records.Proof.PutCall.{roomRef, RoomAt}
 

@@ -43,10 +43,10 @@ use Rattle.record.specs.declared.Peak.{Peak}
 use Rattle.record.proofs.Peak as T
 use Rattle.record.proofs.Peak.Laws as T′
 use Rattle.table.proofs.LentAgain.{LentMut, lends-again, comes-back}
-use Rattle.layout.specs.Layout.{bytesOf, recordOf, totalOf}
-use Rattle.layout.specs.Steps.{over}
-use Rattle.layout.proofs.writer.put_record as put-one
-use Rattle.layout.proofs.writer.put_record.Symbol.{name as #layout·put-record}
+use Rattle.layout.specs.Layout.{bytesOf, fieldsOf, totalOf}
+use Rattle.layout.specs.Inner.{over}
+use Rattle.layout.proofs.records.put_record as put-one
+use Rattle.layout.proofs.records.put_record.Symbol.{name as #layout·put-record}
 
 abbrev pub PutOne : {M : Type 1} (𝓤 : URA M) (H : Heap 𝓤) (A : Atoms 𝓤) (mem : Memory → SProp 𝓤)
     (run : Routine → Fun 𝓤) → Contract 𝓤
@@ -63,7 +63,7 @@ module _ {M : Type 1} (𝓤 : URA M) (H : Heap 𝓤) (A : Atoms 𝓤) (W : Given
     (u : Val) where
   -- the room with the record in it
   abbrev next : List ℕ
-  next = over ys (totalOf cells i) (bytesOf (recordOf p))
+  next = over ys (totalOf cells i) (bytesOf (fieldsOf p))
 
   -- what the triple binds outside: the room is lent for ν under δ
   abbrev put-args : GName → RefT (List ℕ) × (ℕ × (ℕ × (Peak × Unit {0})))

@@ -5,20 +5,19 @@
 --     enough              the room has the place of the i-th record
 --     next-is             the i-th record over the room with i laid over it: i + 1 are laid over it
 -- The row and the room have the place by what the function asks (`Puttable`). Assumes nothing.
-use mathlib.Core.Path.{_≡_, ap, _∙_}
+use mathlib.Core.Path.{_≡_}
 use mathlib.Core.List.{List}
 use Prim.Native.Nat.{ℕ, _+_, _≤_, _<_}
-use native.Mathlib.Decide.{decLt}
 use native.Mathlib.Omega.{arith}
 use lib.ListN.{length, getD}
 use Rattle.relief.specs.Heights.{BLANK}
 use Rattle.record.specs.declared.Peak.{Peak}
 use Rattle.record.specs.Records.{withoutKey}
 use Rattle.table.proofs.Upto.{Upto}
-use Rattle.layout.specs.Layout.{bytesOf, recordOf, totalOf}
-use Rattle.layout.specs.Sound.{recordAt}
-use Rattle.layout.specs.Steps.{over, Puttable, laid}
-use Rattle.layout.proofs.Over.{laid-start, laid-length, laid-step}
+use Rattle.layout.specs.Layout.{bytesOf, fieldsOf, totalOf}
+use Rattle.sound.specs.Sound.{ithOf}
+use Rattle.layout.specs.Inner.{over, Puttable, laid}
+use Rattle.layout.proofs.Laid.{laid-length, laid-step}
 
 abbrev pub none : Peak
 none = withoutKey 0 BLANK
@@ -26,14 +25,7 @@ none = withoutKey 0 BLANK
 module _ {ys : List ℕ} {cells : ℕ} {ps : List Peak} {count : ℕ} (can : Puttable ys cells ps count)
     (i : Upto count) where
   pub at-length : length (laid ys cells ps (i .0)) ≡ length ys
-  at-length = elim (decLt 0 count) [
-    | yes h ↦
-        let l = i .1 in
-        laid-length ys cells ps (i .0) (omega (arith, can .records)) (omega (arith, can .long h))
-    | no n ↦
-        let e : i .0 ≡ 0 = let l = i .1 in omega arith in
-        ap (λ (k : ℕ). length (laid ys cells ps k)) e ∙ ap length (laid-start ys cells ps)
-  ]
+  at-length = laid-length can (i .0) (i .1)
 
   module _ (less : i .0 < count) where
     pub within : i .0 < length ps
@@ -42,7 +34,7 @@ module _ {ys : List ℕ} {cells : ℕ} {ps : List Peak} {count : ℕ} (can : Put
     pub enough : totalOf cells (i .0 + 1) ≤ length ys
     enough = omega (arith, can .long (omega arith))
 
-    pub next-is : over (laid ys cells ps (i .0)) (totalOf cells (i .0)) (bytesOf (recordOf (getD ps (i .0) none)))
+    pub next-is : over (laid ys cells ps (i .0)) (totalOf cells (i .0)) (bytesOf (fieldsOf (getD ps (i .0) none)))
         ≡ laid ys cells ps (i .0 + 1)
-    unfolding recordAt
-    next-is = laid-step ys cells ps (i .0) (omega (arith, within)) (omega (arith, enough)) within
+    unfolding ithOf
+    next-is = laid-step can (i .0) less

@@ -12,30 +12,30 @@ use lib.ListN.{length, drop}
 use Rattle.record.specs.declared.Peak.{Peak}
 use Rattle.layout.specs.declared.ReadBack.{ReadBack}
 use Rattle.layout.specs.declared.ReadBack.the-variants.{Run, Refused}
-use Rattle.layout.specs.Layout.{peaksIn, cellsIn, recordsIn}
-use Rattle.layout.specs.Reading.{Judges, lentOf}
-use Rattle.layout.specs.Steps.{Takable, cellsToTake, recordsToTake, filled}
+use Rattle.layout.specs.Layout.{peaksIn, cellsIn, peaksFrom, recordsFrom}
+use Rattle.layout.specs.Promises.{ReadAnswers, lentAfter}
+use Rattle.layout.specs.Inner.{Takable, cellsToTake, recordsToTake, filledFrom}
 use Rattle.layout.proofs.ReadAnswer.{read-readable, read-same}
 
 module _ (f : List ℕ) (heights : ℕ) (ps : List Peak) where
-  pub takable : (a : ReadBack) → Judges f heights (length ps) a → Takable ps f (cellsToTake a) (recordsToTake a)
+  pub takable : (a : ReadBack) → ReadAnswers f heights (length ps) a → Takable ps f (cellsToTake a) (recordsToTake a)
   takable (Run rows columns peaks) j =
-      let e = sym (j .answer) in
+      let e = j .answered in
       let r = read-readable f heights (length ps) (j .unsound) e in
       let same = read-same f heights (length ps) (j .unsound) e in
       let cells = ap cellsToTake same in
       let count = ap recordsToTake same in
       record {
         room = omega (arith, r .table-room, count);
-        long = λ h. omega (arith, r .total, r .counted .total, cells, count);
+        long = λ h. omega (arith, r .whole .total, r .whole .counted .total, cells, count);
       }
   takable (Refused r) j = record { room = omega arith; long = λ h. absurd (omega arith) }
 
-  pub taken : (a : ReadBack) → Judges f heights (length ps) a
-      → filled ps f (cellsToTake a) (recordsToTake a)
-      ≡ lentOf a (recordsIn f (cellsIn f) (peaksIn f) ++ drop (peaksIn f) ps) ps
-  unfolding recordsIn
+  pub taken : (a : ReadBack) → ReadAnswers f heights (length ps) a
+      → filledFrom ps f (cellsToTake a) (recordsToTake a)
+      ≡ lentAfter a (recordsFrom f (cellsIn f) (peaksIn f) ++ drop (peaksIn f) ps) ps
+  unfolding peaksFrom
   taken (Run rows columns peaks) j =
-      let same = read-same f heights (length ps) (j .unsound) (sym (j .answer)) in
-      ap (λ (a : ReadBack). filled ps f (cellsToTake a) (recordsToTake a)) same
+      let same = read-same f heights (length ps) (j .unsound) (j .answered) in
+      ap (λ (a : ReadBack). filledFrom ps f (cellsToTake a) (recordsToTake a)) same
   taken (Refused r) j = refl

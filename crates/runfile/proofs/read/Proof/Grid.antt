@@ -41,7 +41,7 @@ use denote.Triple.Spec.{tripleOf}
 use denote.Triple.Table.{cited}
 use denote.Triple.Walked.{says}
 use Rattle.layout.specs.declared.ReadBack.{ReadBack}
-use Rattle.layout.specs.Steps.{GridTaken}
+use Rattle.layout.specs.Inner.{GridTaken}
 use Rattle.layout.proofs.ReadBack as S
 use Rattle.layout.proofs.reader.take_grid as grid
 use Rattle.layout.proofs.reader.take_grid.Symbol as grid-def

@@ -32,7 +32,7 @@ use denote.Triple.Spec.{tripleOf}
 use denote.Triple.Table.{cited}
 use Rattle.table.proofs.Locals.{calls-number}
 use Rattle.layout.specs.declared.ReadBack.{ReadBack}
-use Rattle.layout.specs.Steps.{cellsToTake, recordsToTake}
+use Rattle.layout.specs.Inner.{cellsToTake, recordsToTake}
 use Rattle.layout.proofs.ReadBack as S
 use Rattle.layout.proofs.ReadBack.Laws as S′
 use Rattle.layout.proofs.reader.cells_to_take as cells-of

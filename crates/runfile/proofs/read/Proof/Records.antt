@@ -43,7 +43,7 @@ use denote.Triple.Table.{cited}
 use denote.Triple.Walked.{says}
 use Rattle.record.specs.declared.Peak.{Peak}
 use Rattle.record.proofs.Peak as T
-use Rattle.layout.specs.Steps.{Takable, filled}
+use Rattle.layout.specs.Inner.{Takable, filledFrom}
 use Rattle.runfile.proofs.Slices.{valueOf, OwnShr, OwnMut, copies, Leaves, calls-leaves}
 use Rattle.runfile.proofs.take_records as take
 use Rattle.runfile.proofs.take_records.Symbol as take-def
@@ -62,7 +62,7 @@ take-known 𝓤 H 𝓜 𝓖 𝓡 env e =
     (take-thm.met 𝓤 H 𝓜 𝓖 𝓡)
 
 abbrev pub TakeLeft : List Peak → List ℕ → ℕ → ℕ → List Peak → Type 0
-TakeLeft table file cells count ts = (length ts ≡ length table) × (ts ≡ filled table file cells count)
+TakeLeft table file cells count ts = (length ts ≡ length table) × (ts ≡ filledFrom table file cells count)
 
 abbrev R : RattleType
 R = T.the-row
@@ -116,9 +116,9 @@ module _ {M : Type 1} (𝓤 : URA M) (H : Heap 𝓤) (A : Atoms 𝓤) (W : Given
   take-said : (u : Unit {0}) → ent 𝓤 (Said u) (ex 𝓤 (Leaves 𝓤 H A R (t .name) (Left u)))
   take-said u =
       qed W (some (λ (ws : Lasts take.ended take-lfts take-args). ‵ (lasts take.ended take-lfts take-args ws)
-      ⊛ raw (fact 𝓤 (ws .0 ≡ filled (t .now) (f .now) cells count))) ∷ []) ∵
+      ⊛ raw (fact 𝓤 (ws .0 ≡ filledFrom (t .now) (f .now) cells count))) ∷ []) ∵
       pick ! (λ ws. split ! $ move ! (1 ∷ []) $
-      heard ! (ws .0 ≡ filled (t .now) (f .now) cells count) (λ e.
+      heard ! (ws .0 ≡ filledFrom (t .now) (f .now) cells count) (λ e.
       fsplit ! $ fsplit ! $ move ! (1 ∷ []) $ feqL ! (λ l.
       show ! (Leaves 𝓤 H A R (t .name) (Left u)) (ws .0) $ says ! (l, e) $ keep ! (0 ∷ []) $ done !)))
 

@@ -5,7 +5,7 @@
 --     Ended               the postcondition of the walk
 --     exits               the table filled up to the count, with its borrow closed, the file and the tokens make it
 -- The numbers, the file and the tokens are as they came. The table is at a list as long, and of that list the contract
--- says that it is `filled` up to the count. Assumes `Given`.
+-- says that it is `filledFrom` up to the count. Assumes `Given`.
 use mathlib.Core.Path.{_≡_, refl, sym, ap, subst}
 use mathlib.Core.List.{List, [], _∷_}
 use Prim.Native.Nat.{ℕ, _<_, _^_}
@@ -35,7 +35,7 @@ use denote.Triple.Walked.{says, Stays, stay-none, stay-slice, stay-none-slice, w
 use denote.Exit.{yes as kept}
 use Rattle.record.specs.declared.Peak.{Peak}
 use Rattle.record.proofs.Peak as T
-use Rattle.layout.specs.Steps.{filled}
+use Rattle.layout.specs.Inner.{filledFrom}
 use Rattle.runfile.proofs.take_records as take
 use Rattle.runfile.proofs.take_records.Proof.RecordCall.{fileVal, File}
 
@@ -71,7 +71,7 @@ module _ (b o : ℕ) (γ : GName) (ys : List Peak) (s : RefT (List ℕ)) (n coun
     Ended = walkOf 𝓤 H A take.ended stayed (take.clauses 𝓤 H A mem run) .post bound
 
     pub exits : Given 𝓤 H A → n < 2 ^ 64 → count < 2 ^ 64 → Room R (length ys)
-        → (zs : List Peak) → length zs ≡ length ys → zs ≡ filled ys (s .now) n count
+        → (zs : List Peak) → length zs ≡ length ys → zs ≡ filledFrom ys (s .now) n count
         → ent 𝓤 (⋆ 𝓤 H A (‵ (fobs γ (codedHoleys R .code (heres R zs))) ∷ ‵ (fbor κ (Held R (length zs) b o γ))
         ∷ ‵ (flft κ q) ∷ ‵ (flft κ′ q′) ∷ ‵ (File κ′ s) ∷ [])) (Ended vunit)
     exits W n-fits count-fits room zs l e =

@@ -13,7 +13,7 @@ use lib.ListN.{length}
 use Rattle.record.specs.declared.Peak.{Peak}
 use Rattle.table.proofs.Upto.{Upto}
 use Rattle.layout.specs.Layout.{totalOf}
-use Rattle.layout.specs.Steps.{Takable, filled}
+use Rattle.layout.specs.Inner.{Takable, filledFrom}
 use Rattle.layout.proofs.Rows.{filled-length}
 
 module _ {ys : List Peak} {s : List ℕ} {n count : ℕ} (can : Takable ys s n count) where
@@ -23,8 +23,8 @@ module _ {ys : List Peak} {s : List ℕ} {n count : ℕ} (can : Takable ys s n c
   pub within : (i : ℕ) → i < count → i < length ys
   within i less = let h = can .room in omega arith
 
-  pub at-length : (i : Upto count) → length (filled ys s n (i .0)) ≡ length ys
+  pub at-length : (i : Upto count) → length (filledFrom ys s n (i .0)) ≡ length ys
   at-length i = let h = can .room in let k = i .1 in filled-length ys s n (i .0) (omega arith)
 
-  pub within-at : (i : Upto count) → i .0 < count → i .0 < length (filled ys s n (i .0))
+  pub within-at : (i : Upto count) → i .0 < count → i .0 < length (filledFrom ys s n (i .0))
   within-at i less = subst (λ (m : ℕ). i .0 < m) (sym (at-length i)) (within (i .0) less)

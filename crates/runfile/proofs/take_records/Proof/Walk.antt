@@ -3,10 +3,10 @@
 --     At i                the loop's invariant, where i records are filled in
 --     more, ends, turns   a turn that fills one record, the turn that leaves the loop, and any turn
 --     walk                the MIR from the entry
--- The borrow of the table is opened before the loop and closed after it. The invariant: the table is `filled` up to i,
--- and i is at most the count. A turn calls `record_in` (`calls-record`), and stores the record that comes back at i
--- (`filled-step`); what is left of the count falls. Behind the loop the table has all the records (`exits`).
--- Assumes `Given`, and the contract of `record_in`.
+-- The borrow of the table is opened before the loop and closed after it. The invariant: the table is `filledFrom` up to
+-- i, and i is at most the count. A turn calls `record_from` (`calls-record`), and stores the record that comes back at
+-- i (`filled-step`); what is left of the count falls. Behind the loop the table has all the records (`exits`).
+-- Assumes `Given`, and the contract of `record_from`.
 use mathlib.Core.Path.{refl, sym, ap}
 use mathlib.Core.Bool.{Bool}
 use mathlib.Core.List.{List, [], _∷_}
@@ -51,13 +51,13 @@ use Rattle.record.proofs.Peak as T
 use Rattle.record.proofs.Peak.Laws as T′
 use Rattle.table.proofs.Locals.{localAt, copied, release}
 use Rattle.table.proofs.Upto.{Upto, Nearer, Nearer-wf, bytes-fit, next-fits}
-use Rattle.layout.specs.Layout.{recordIn}
-use Rattle.layout.specs.Steps.{Takable, filled}
+use Rattle.layout.specs.Layout.{recordFrom}
+use Rattle.layout.specs.Inner.{Takable, filledFrom}
 use Rattle.layout.proofs.Rows.{filled-start, filled-step}
-use Rattle.layout.proofs.records.record_in.Symbol.{name as #layout·record-in}
+use Rattle.layout.proofs.records.record_from.Symbol.{name as #layout·record-from}
 use Rattle.runfile.proofs.take_records as take
 use Rattle.runfile.proofs.take_records.Proof.End.{R, args, vals, Ended, exits}
-use Rattle.runfile.proofs.take_records.Proof.RecordCall.{RecordIn, fileVal, File, calls-record}
+use Rattle.runfile.proofs.take_records.Proof.RecordCall.{RecordFrom, fileVal, File, calls-record}
 use Rattle.runfile.proofs.take_records.Proof.Turn.{long, within, at-length}
 use Rattle.runfile.proofs.take_records.Proof.Turn.{within-at}
 use Rattle.runfile.proofs.take_records.Code as code
@@ -89,13 +89,13 @@ module _ {M : Type 1} (𝓤 : URA M) (H : Heap 𝓤) (A : Atoms 𝓤) (W : Given
 
   -- the table after i records
   abbrev at : ℕ → List Peak
-  at i = filled ys (s .now) n i
+  at i = filledFrom ys (s .now) n i
 
   -- the record that a turn stores
   abbrev record-of : Upto count → Peak
-  record-of i = recordIn (s .now) n (i .0)
+  record-of i = recordFrom (s .now) n (i .0)
 
-  module _ (𝓣 : Tables 𝓤 H) (known : Triple 𝓤 (𝓣 .C #layout·record-in) (RecordIn 𝓤 H A mem run))
+  module _ (𝓣 : Tables 𝓤 H) (known : Triple 𝓤 (𝓣 .C #layout·record-from) (RecordFrom 𝓤 H A mem run))
       (l₀ l₁ l₂ l₃ l₄ l₅ l₆ l₇ l₈ l₉ : ℕ) where
     abbrev C : Calls 𝓤 H
     C = 𝓣 .C
@@ -204,7 +204,7 @@ module _ {M : Type 1} (𝓤 : URA M) (H : Heap 𝓤) (A : Atoms 𝓤) (W : Given
     ]
 
   -- the MIR up to the loop: the borrow is opened once, before it
-  pub walk : (𝓣 : Tables 𝓤 H) (known : Triple 𝓤 (𝓣 .C #layout·record-in) (RecordIn 𝓤 H A mem run))
+  pub walk : (𝓣 : Tables 𝓤 H) (known : Triple 𝓤 (𝓣 .C #layout·record-from) (RecordFrom 𝓤 H A mem run))
       → ent 𝓤 (onEntry 𝓤 H A take.signature (κ, (κ′, tt)) (q, (q′, tt)) (args b o γ ys s n count)
       (vals b o γ ys s n count))
       (WpFn 𝓤 H (𝓣 .C) (𝓣 .Λ) code.function (tv ∷ fileVal s ∷ vint w64 n ∷ vint w64 count ∷ []) Post)

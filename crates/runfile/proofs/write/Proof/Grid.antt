@@ -45,7 +45,7 @@ use denote.Triple.Table.{cited}
 use denote.Triple.Walked.{says}
 use Rattle.table.proofs.LentAgain.{LentMut, lends-again, comes-back}
 use Rattle.layout.specs.declared.Written.{Written}
-use Rattle.layout.specs.Steps.{Few, GridPut}
+use Rattle.layout.specs.Inner.{Few, GridPut}
 use Rattle.layout.proofs.Written as S
 use Rattle.layout.proofs.writer.put_grid as grid
 use Rattle.layout.proofs.writer.put_grid.Symbol as grid-def

@@ -41,8 +41,8 @@ use Rattle.record.specs.declared.Peak.{Peak}
 use Rattle.record.proofs.Peak as T
 use Rattle.table.proofs.Locals.{lands-number, calls-number}
 use Rattle.layout.specs.declared.Written.{Written}
-use Rattle.layout.specs.Sound.{FirstUnsound}
-use Rattle.layout.specs.Steps.{putOf}
+use Rattle.sound.specs.Sound.{FirstUnsound}
+use Rattle.layout.specs.Inner.{putOf}
 use Rattle.layout.proofs.Written as S
 use Rattle.layout.proofs.Written.Laws as S′
 use Rattle.layout.proofs.writer.records_to_put as count-of

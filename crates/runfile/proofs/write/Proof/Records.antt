@@ -44,7 +44,7 @@ use denote.Triple.Table.{cited}
 use denote.Triple.Walked.{says}
 use Rattle.record.specs.declared.Peak.{Peak}
 use Rattle.record.proofs.Peak as T
-use Rattle.layout.specs.Steps.{Puttable, laid}
+use Rattle.layout.specs.Inner.{Puttable, laid}
 use Rattle.runfile.proofs.Slices.{valueOf, sliceAt, OwnShr, copies, Leaves, calls-leaves}
 use Rattle.runfile.proofs.put_records as put
 use Rattle.runfile.proofs.put_records.Symbol as put-def

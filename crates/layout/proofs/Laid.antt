@@ -1,0 +1,136 @@
+-- Records laid one behind the other, from a place in bytes on.
+--     Grows row peak n                     the row `row i` has the first i of the records `peak j`, up to n of them
+--     peaks-grow, left-grow, take-grows    so do those read from bytes, those a survey left, and the front of a row
+--     Lays s at row n t i                  the invariant of a loop that lays them: t is s with the first i
+--     lays-start, lays-length, lays-step, lays-done, lays-front    its laws
+--     laid-start, laid-length, laid-step   the same for a room with records behind so many cells
+-- A turn lays 16 bytes behind those laid before it (`over-over`). Assumes nothing.
+use mathlib.Core.Path.{_≡_, refl, sym, _∙_, ap}
+use mathlib.Core.List.{List, [], _∷_, _++_, append-nil, flatMap}
+use Prim.Native.Nat.{ℕ, zero, suc, _+_, _*_, _≤_, _<_}
+use native.Mathlib.Decide.{decLt}
+use native.Mathlib.Numerals.{add-one}
+use native.Mathlib.Omega.{arith}
+use lib.ListN.{length, take, drop, length-append}
+use lib.Seq.{take-suc}
+use Rattle.relief.specs.Heights.{BLANK}
+use Rattle.record.specs.declared.Peak.{Peak}
+use Rattle.record.specs.Records.{withoutKey}
+use Rattle.area.specs.Area.{orderIn}
+use Rattle.table.specs.Inner.{peakIn, recordsIn}
+use Rattle.sound.specs.Sound.{ithOf}
+use Rattle.layout.specs.Layout.{bytesOf, fieldsOf, allFieldsOf, totalOf, peakFrom, peaksFrom}
+use Rattle.layout.specs.Inner.{over, Puttable, laid}
+use Rattle.layout.proofs.Over.{over-nil, over-front, over-length, over-over}
+use Rattle.layout.proofs.Rows.{four-length, four-append, record-four, bytes-length, bytes-append}
+
+pub record Grows (row : ℕ → List Peak) (peak : ℕ → Peak) (n : ℕ) : Type 0 where
+  pub start : row 0 ≡ []
+  pub next : (i : ℕ) → i < n → row (suc i) ≡ row i ++ (peak i ∷ [])
+
+pub peaks-grow : (s : List ℕ) (at n : ℕ) → Grows (peaksFrom s at) (λ i. peakFrom s (at + 4 * i)) n
+unfolding peaksFrom
+peaks-grow s at n = record { start = refl; next = λ i l. refl }
+
+pub left-grow : (s : List ℕ) (cells n : ℕ) → Grows (recordsIn s cells) (λ i. peakIn s cells (orderIn s cells i)) n
+unfolding recordsIn
+left-grow s cells n = record { start = refl; next = λ i l. refl }
+
+pub take-grows : (ps : List Peak) (n : ℕ) → n ≤ length ps → Grows (λ i. take i ps) (ithOf ps) n
+unfolding ithOf
+take-grows ps n h = record { start = refl; next = λ i l. take-suc ps i (withoutKey 0 BLANK) (omega arith) }
+
+-- ---- the bytes of a row
+
+module _ {row : ℕ → List Peak} {peak : ℕ → Peak} {n : ℕ} (g : Grows row peak n) where
+  row-length : (i : ℕ) → i ≤ n → length (row i) ≡ i
+  row-length zero l = ap length (g .start)
+  row-length (suc i) l =
+      ap length (g .next i l) ∙ length-append (row i) (peak i ∷ []) ∙ omega (arith, row-length i (omega arith))
+
+  row-bytes : (i : ℕ) → i ≤ n → length (bytesOf (allFieldsOf (row i))) ≡ 16 * i
+  row-bytes i l =
+      omega (arith, bytes-length (allFieldsOf (row i)), four-length fieldsOf record-four (row i), row-length i l)
+
+  row-next : (i : ℕ) → i < n
+      → bytesOf (allFieldsOf (row i)) ++ bytesOf (fieldsOf (peak i)) ≡ bytesOf (allFieldsOf (row (suc i)))
+  unfolding flatMap
+  row-next i l =
+      sym (bytes-append (allFieldsOf (row i)) (fieldsOf (peak i)))
+      ∙ ap (λ (k : List ℕ). bytesOf (allFieldsOf (row i) ++ k)) (sym (append-nil (fieldsOf (peak i))))
+      ∙ ap bytesOf (sym (four-append fieldsOf record-four (row i) (peak i ∷ [])))
+      ∙ ap (λ (ps : List Peak). bytesOf (allFieldsOf ps)) (sym (g .next i l))
+
+-- ---- the loop that lays them
+
+pub record Lays (s : List ℕ) (at : ℕ) (row : ℕ → List Peak) (n : ℕ) (t : List ℕ) (i : ℕ) : Type 0 where
+  pub below : i ≤ n
+  pub bytes : t ≡ over s at (bytesOf (allFieldsOf (row i)))
+
+module _ {row : ℕ → List Peak} {peak : ℕ → Peak} {n : ℕ} (g : Grows row peak n) {s : List ℕ} {at : ℕ} where
+  pub lays-start : Lays s at row n s 0
+  unfolding flatMap
+  lays-start = record {
+    below = omega arith;
+    bytes = over-nil s at ∙ ap (λ (ps : List Peak). over s at (bytesOf (allFieldsOf ps))) (sym (g .start));
+  }
+
+  module _ {t : List ℕ} {i : ℕ} (h : Lays s at row n t i) (room : 0 < n → at + 16 * n ≤ length s) where
+    pub lays-length : length t ≡ length s
+    lays-length =
+        let b = h .below in
+        elim (decLt 0 n) [
+          | yes l ↦
+              ap length (h .bytes)
+              ∙ over-length s at (bytesOf (allFieldsOf (row i))) (omega (arith, row-bytes g i b, room l))
+          | no m ↦
+              let e : 0 ≡ i = omega arith in
+              ap length (h .bytes ∙ ap (λ (k : ℕ). over s at (bytesOf (allFieldsOf (row k)))) (sym e)
+              ∙ sym (lays-start .bytes))
+        ]
+
+    pub lays-step : {u : List ℕ} {p : Peak} {place : ℕ} → i < n → p ≡ peak i → place ≡ at + 16 * i
+        → u ≡ over t place (bytesOf (fieldsOf p)) → Lays s at row n u (i + 1)
+    lays-step {u} {p} {place} here e q f =
+        let b = row-bytes g i (omega arith) in
+        record {
+          below = omega arith;
+          bytes =
+              f ∙ ap (λ (l : List ℕ). over l place (bytesOf (fieldsOf p))) (h .bytes)
+              ∙ over-over s at (bytesOf (allFieldsOf (row i))) (omega (arith, room (omega arith))) place
+              (bytesOf (fieldsOf p)) (omega arith)
+              ∙ ap (λ (x : Peak). over s at (bytesOf (allFieldsOf (row i)) ++ bytesOf (fieldsOf x))) e
+              ∙ ap (over s at) (row-next g i here) ∙ rw (add-one i);
+        }
+
+  pub lays-done : {t : List ℕ} {i : ℕ} → Lays s at row n t i → n ≤ i → t ≡ over s at (bytesOf (allFieldsOf (row n)))
+  lays-done {i = i} h l =
+      let b = h .below in
+      let e : i ≡ n = omega arith in
+      h .bytes ∙ ap (λ (k : ℕ). over s at (bytesOf (allFieldsOf (row k)))) e
+
+-- laid from the front on
+pub lays-front : {row : ℕ → List Peak} {peak : ℕ → Peak} {n : ℕ} → Grows row peak n → {s t : List ℕ} {i : ℕ}
+    → Lays s 0 row n t i → n ≤ i → t ≡ bytesOf (allFieldsOf (row n)) ++ drop (16 * n) s
+lays-front {row} {n = n} g {s} h l =
+    lays-done g h l ∙ over-front s (bytesOf (allFieldsOf (row n)))
+    ∙ ap (λ (k : ℕ). bytesOf (allFieldsOf (row n)) ++ drop k s) (row-bytes g n (omega arith))
+
+-- ---- records behind so many cells
+
+pub laid-start : (s : List ℕ) (cells : ℕ) (ps : List Peak) → laid s cells ps 0 ≡ s
+unfolding laid flatMap
+laid-start s cells ps = sym (over-nil s (24 + 4 * cells))
+
+module _ {s : List ℕ} {cells : ℕ} {ps : List Peak} {n : ℕ} (can : Puttable s cells ps n) (i : ℕ) where
+  lays : i ≤ n → Lays s (24 + 4 * cells) (λ j. take j ps) n (laid s cells ps i) i
+  unfolding laid
+  lays l = record { below = l; bytes = refl }
+
+  pub laid-length : i ≤ n → length (laid s cells ps i) ≡ length s
+  laid-length l = lays-length (take-grows ps n (can .records)) (lays l) (can .long)
+
+  pub laid-step : i < n
+      → over (laid s cells ps i) (totalOf cells i) (bytesOf (fieldsOf (ithOf ps i))) ≡ laid s cells ps (i + 1)
+  unfolding laid
+  laid-step l = lays-step (take-grows ps n (can .records)) (lays (omega arith)) (can .long) l refl refl refl .bytes

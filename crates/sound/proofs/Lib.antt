@@ -1,0 +1,4 @@
+pub mod Cells
+pub mod ByLevels
+pub mod Scans
+pub mod Claims
