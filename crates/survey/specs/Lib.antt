@@ -1,2 +1,2 @@
-pub mod Answers
-pub mod Inner
+pub mod Answers  -- what the public calls use
+pub mod Inner  -- choosing, collecting, marking: inner contracts
