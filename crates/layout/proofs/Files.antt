@@ -134,10 +134,10 @@ module _ {rows : ℕ} {hs : List ℤ} (ps : List Peak) (grid : GridOf rows hs) (
 
   pub back-heights : heightsIn file (length hs) ≡ hs
   back-heights =
-      ext-getD BLANK (heightsIn file (length hs)) hs (heights-length file (length hs))
+      ext-getD BLANK (heightsIn file (length hs)) hs (heights-length file 6 (length hs))
       (λ i l.
-      let h : i < length hs = omega (arith, heights-length file (length hs)) in
-      heights-at file (length hs) i h ∙ ap signedOf (file-word rows hs ps (6 + i) (omega arith))
+      let h : i < length hs = omega (arith, heights-length file 6 (length hs)) in
+      heights-at file 6 (length hs) i h ∙ ap signedOf (file-word rows hs ps (6 + i) (omega arith))
       ∙ ap signedOf (numbers-height rows hs ps i h) ∙ signed-bits (grid .fit i h))
 
   -- A sound record's heights are cells', or the mark.
@@ -192,7 +192,7 @@ module _ (f : List ℕ) (bytes : (k : ℕ) → getD f k 0 < 256) {heights table 
   ps = recordsFrom f (cellsIn f) (peaksIn f)
 
   cells-are : length hs ≡ cellsIn f
-  cells-are = heights-length f (cellsIn f)
+  cells-are = heights-length f 6 (cellsIn f)
 
   peaks-are : length ps ≡ peaksIn f
   peaks-are = peaks-length f (6 + cellsIn f) (peaksIn f)
@@ -232,7 +232,7 @@ module _ (f : List ℕ) (bytes : (k : ℕ) → getD f k 0 < 256) {heights table 
           let place : 6 + (j - 6) ≡ j = omega arith in
           let e =
           numbers-height (rowsIn f) hs ps (j - 6) (omega (arith, cells-are))
-          ∙ ap bitsOf (heights-at f (cellsIn f) (j - 6) (omega arith))
+          ∙ ap bitsOf (heights-at f 6 (cellsIn f) (j - 6) (omega arith))
           ∙ bits-signed (wordAt f (6 + (j - 6))) (below (6 + (j - 6))) in
           rw place at e
       | no m ↦

@@ -1,17 +1,16 @@
 -- Records laid one behind the other, from a place in bytes on.
---     Grows row peak n                     the row `row i` has the first i of the records `peak j`, up to n of them
---     peaks-grow, left-grow, take-grows    so do those read from bytes, those a survey left, and the front of a row
+--     left-grow, take-grows                the records that a survey left, and the front of a row, are such rows
 --     Lays s at row n t i                  the invariant of a loop that lays them: t is s with the first i
 --     lays-start, lays-length, lays-step, lays-done, lays-front    its laws
 --     laid-start, laid-length, laid-step   the same for a room with records behind so many cells
 -- A turn lays 16 bytes behind those laid before it (`over-over`). Assumes nothing.
 use mathlib.Core.Path.{_≡_, refl, sym, _∙_, ap}
 use mathlib.Core.List.{List, [], _∷_, _++_, append-nil, flatMap}
-use Prim.Native.Nat.{ℕ, zero, suc, _+_, _*_, _≤_, _<_}
+use Prim.Native.Nat.{ℕ, suc, _+_, _*_, _≤_, _<_}
 use native.Mathlib.Decide.{decLt}
 use native.Mathlib.Numerals.{add-one}
 use native.Mathlib.Omega.{arith}
-use lib.ListN.{length, take, drop, length-append}
+use lib.ListN.{length, take, drop}
 use lib.Seq.{take-suc}
 use Rattle.relief.specs.Heights.{BLANK}
 use Rattle.record.specs.declared.Peak.{Peak}
@@ -19,18 +18,11 @@ use Rattle.record.specs.Records.{withoutKey}
 use Rattle.area.specs.Area.{orderIn}
 use Rattle.table.specs.Inner.{peakIn, recordsIn}
 use Rattle.sound.specs.Sound.{ithOf}
-use Rattle.layout.specs.Layout.{bytesOf, fieldsOf, allFieldsOf, totalOf, peakFrom, peaksFrom}
+use Rattle.layout.specs.Layout.{bytesOf, fieldsOf, allFieldsOf, totalOf}
 use Rattle.layout.specs.Inner.{over, Puttable, laid}
 use Rattle.layout.proofs.Over.{over-nil, over-front, over-length, over-over}
 use Rattle.layout.proofs.Rows.{four-length, four-append, record-four, bytes-length, bytes-append}
-
-pub record Grows (row : ℕ → List Peak) (peak : ℕ → Peak) (n : ℕ) : Type 0 where
-  pub start : row 0 ≡ []
-  pub next : (i : ℕ) → i < n → row (suc i) ≡ row i ++ (peak i ∷ [])
-
-pub peaks-grow : (s : List ℕ) (at n : ℕ) → Grows (peaksFrom s at) (λ i. peakFrom s (at + 4 * i)) n
-unfolding peaksFrom
-peaks-grow s at n = record { start = refl; next = λ i l. refl }
+use Rattle.layout.proofs.Rows.{Grows, grows-length}
 
 pub left-grow : (s : List ℕ) (cells n : ℕ) → Grows (recordsIn s cells) (λ i. peakIn s cells (orderIn s cells i)) n
 unfolding recordsIn
@@ -43,14 +35,9 @@ take-grows ps n h = record { start = refl; next = λ i l. take-suc ps i (without
 -- ---- the bytes of a row
 
 module _ {row : ℕ → List Peak} {peak : ℕ → Peak} {n : ℕ} (g : Grows row peak n) where
-  row-length : (i : ℕ) → i ≤ n → length (row i) ≡ i
-  row-length zero l = ap length (g .start)
-  row-length (suc i) l =
-      ap length (g .next i l) ∙ length-append (row i) (peak i ∷ []) ∙ omega (arith, row-length i (omega arith))
-
   row-bytes : (i : ℕ) → i ≤ n → length (bytesOf (allFieldsOf (row i))) ≡ 16 * i
   row-bytes i l =
-      omega (arith, bytes-length (allFieldsOf (row i)), four-length fieldsOf record-four (row i), row-length i l)
+      omega (arith, bytes-length (allFieldsOf (row i)), four-length fieldsOf record-four (row i), grows-length g i l)
 
   row-next : (i : ℕ) → i < n
       → bytesOf (allFieldsOf (row i)) ++ bytesOf (fieldsOf (peak i)) ≡ bytesOf (allFieldsOf (row (suc i)))

@@ -6,3 +6,4 @@ pub mod ReadAnswer
 pub mod Files
 pub mod Room
 pub mod Laid
+pub mod HandedBytes

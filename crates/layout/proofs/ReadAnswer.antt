@@ -9,6 +9,7 @@
 --     Readable f heights table u     none of the tests applies
 --     readable-good                  then the answer is a run ..
 --     read-readable, read-same       .. and the other way round, and the run is the file's
+--     answers-unique                 a file has one answer
 -- Assumes nothing.
 use mathlib.Core.Bool.{Bool, true, false, not}
 use mathlib.Core.List.{List, [], _∷_}
@@ -28,7 +29,7 @@ use Rattle.record.proofs.Refusals.{rows-right, rows-known, refusals-differ, tol
 use Rattle.record.proofs.Tests.{Makes, then, first-passed, first-good, first-before, first-at, granted-good, told-by}
 use Rattle.words.specs.Words.{wordAt}
 use Rattle.sound.specs.Sound.{FirstUnsound}
-use Rattle.sound.proofs.Scans.{first-total}
+use Rattle.sound.proofs.Scans.{first-total, first-unique}
 use Rattle.layout.specs.declared.ReadBack.{ReadBack}
 use Rattle.layout.specs.declared.ReadBack.the-variants.{Run, Refused}
 use Rattle.layout.specs.Layout.{totalOf, rowsIn, columnsIn, peaksIn, cellsIn, heightsIn, recordsFrom}
@@ -214,3 +215,14 @@ module _ (f : List ℕ) (heights table u : ℕ) where
 
     pub read-same : Run rows columns peaks ≡ Run (rowsIn f) (columnsIn f) (peaksIn f)
     read-same = read-differ (Run rows columns peaks) (Run (rowsIn f) (columnsIn f) (peaksIn f)) (e ∙ told-by _ good)
+
+-- ---- one answer to a file
+
+pub answers-unique : {f : List ℕ} {heights table : ℕ} {a b : ReadBack} → ReadAnswers f heights table a
+    → ReadAnswers f heights table b → a ≡ b
+answers-unique {f} {heights} {table} {a} {b} j k =
+    read-differ a b
+    (j .answered
+    ∙ ap (λ (u : ℕ). toldBy (readTests f heights table u) (granted (rowsIn f ∷ columnsIn f ∷ peaksIn f ∷ [])))
+    (first-unique (j .first) (k .first))
+    ∙ sym (k .answered))

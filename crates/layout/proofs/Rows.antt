@@ -1,10 +1,11 @@
 -- Laws of rows: of bytes, of heights and of records, written and read. With `Files` the only file that unfolds
--- `fieldsOf`, `heightsIn` and `peaksFrom`.
+-- `fieldsOf`, `heightsFrom` and `peaksFrom`.
 --     four-length, four-append, four-at        rows made of pieces of four
 --     bytes-length, bytes-append, bytes-at     the bytes of a row of numbers; bytes-word, a number of it
 --     record-four                              a record has four numbers
---     heights-length, heights-at               the heights of a file
---     peaks-length, peaks-at                   records
+--     Grows row item n                         the row `row i` has the first i of the items, up to n of them
+--     heights-length, heights-at               heights read from bytes
+--     peaks-grow, peaks-length, peaks-at       records read from bytes
 --     heights-fill                             a row of heights that is filled from the front
 --     filled-start, filled-step, filled-length    a table that is
 -- Assumes nothing.
@@ -23,8 +24,8 @@ use mir.ValLaws.{toZ-ofZ}
 use Rattle.relief.specs.Heights.{BLANK}
 use Rattle.record.specs.declared.Peak.{Peak}
 use Rattle.words.specs.Words.{wordAt}
-use Rattle.layout.specs.Layout.{signedOf, wordOf, bytesOf, fieldsOf, heightsIn, peakFrom, peaksFrom}
-use Rattle.layout.specs.Layout.{recordFrom, recordsFrom}
+use Rattle.layout.specs.Layout.{signedOf, wordOf, bytesOf, fieldsOf, heightsFrom, heightsIn}
+use Rattle.layout.specs.Layout.{peakFrom, peaksFrom, recordFrom, recordsFrom}
 use Rattle.sound.specs.Sound.{ithOf}
 use Rattle.layout.specs.Inner.{filledFrom}
 
@@ -91,46 +92,52 @@ pub record-four : (p : Peak) → length (fieldsOf p) ≡ 4
 unfolding fieldsOf
 record-four p = refl
 
--- ---- what a file holds
+-- ---- rows read item by item
 
-pub heights-length : (f : List ℕ) (n : ℕ) → length (heightsIn f n) ≡ n
-unfolding heightsIn
-heights-length f zero = refl
-heights-length f (suc n) =
-    length-append (heightsIn f n) (signedOf (wordAt f (6 + n)) ∷ []) ∙ omega (arith, heights-length f n)
+-- The row `row i` has the first i of the items, up to n of them.
+pub record Grows {A : Type 0} (row : ℕ → List A) (item : ℕ → A) (n : ℕ) : Type 0 where
+  pub start : row 0 ≡ []
+  pub next : (i : ℕ) → i < n → row (suc i) ≡ row i ++ (item i ∷ [])
 
-pub heights-at : (f : List ℕ) (n i : ℕ) → i < n → getD (heightsIn f n) i BLANK ≡ signedOf (wordAt f (6 + i))
-unfolding heightsIn
-heights-at f zero i h = absurd (omega arith)
-heights-at f (suc n) i h =
-    let len = heights-length f n in
-    let ih : i < n → getD (heightsIn f n) i BLANK ≡ signedOf (wordAt f (6 + i)) = heights-at f n i in
-    elim (decLt i n) [
-      | yes l ↦
-          List·getD-append (heightsIn f n) (signedOf (wordAt f (6 + n)) ∷ []) BLANK i (omega arith) ∙ ih l
-      | no m ↦
-          let e : i ≡ n = omega arith in
-          rw e (getD-at (heightsIn f n) (signedOf (wordAt f (6 + n))) [] BLANK n len)
-    ]
+module _ {A : Type 0} {row : ℕ → List A} {item : ℕ → A} {n : ℕ} (g : Grows row item n) where
+  pub grows-length : (m : ℕ) → m ≤ n → length (row m) ≡ m
+  grows-length zero l = ap length (g .start)
+  grows-length (suc m) l =
+      ap length (g .next m l) ∙ length-append (row m) (item m ∷ []) ∙ omega (arith, grows-length m (omega arith))
+
+  grows-at : (d : A) (m i : ℕ) → m ≤ n → i < m → getD (row m) i d ≡ item i
+  grows-at d zero i l h = absurd (omega arith)
+  grows-at d (suc m) i l h =
+      let len = grows-length m (omega arith) in
+      let ih : i < m → getD (row m) i d ≡ item i = grows-at d m i (omega arith) in
+      ap (λ (r : List A). getD r i d) (g .next m l)
+      ∙ elim (decLt i m) [
+        | yes k ↦ List·getD-append (row m) (item m ∷ []) d i (omega arith) ∙ ih k
+        | no k ↦
+            let e : i ≡ m = omega arith in
+            rw e (getD-at (row m) (item m) [] d m len)
+      ]
+
+heights-grow : (s : List ℕ) (at n : ℕ) → Grows (heightsFrom s at) (λ i. signedOf (wordAt s (at + i))) n
+unfolding heightsFrom
+heights-grow s at n = record { start = refl; next = λ i l. refl }
+
+pub heights-length : (s : List ℕ) (at n : ℕ) → length (heightsFrom s at n) ≡ n
+heights-length s at n = grows-length (heights-grow s at n) n (omega arith)
+
+pub heights-at : (s : List ℕ) (at n i : ℕ) → i < n → getD (heightsFrom s at n) i BLANK ≡ signedOf (wordAt s (at + i))
+heights-at s at n i h = grows-at (heights-grow s at n) BLANK n i (omega arith) h
+
+pub peaks-grow : (s : List ℕ) (at n : ℕ) → Grows (peaksFrom s at) (λ i. peakFrom s (at + 4 * i)) n
+unfolding peaksFrom
+peaks-grow s at n = record { start = refl; next = λ i l. refl }
 
 pub peaks-length : (s : List ℕ) (at n : ℕ) → length (peaksFrom s at n) ≡ n
-unfolding peaksFrom
-peaks-length s at zero = refl
-peaks-length s at (suc n) =
-    length-append (peaksFrom s at n) (peakFrom s (at + 4 * n) ∷ []) ∙ omega (arith, peaks-length s at n)
+peaks-length s at n = grows-length (peaks-grow s at n) n (omega arith)
 
 pub peaks-at : (s : List ℕ) (at n i : ℕ) → i < n → ithOf (peaksFrom s at n) i ≡ peakFrom s (at + 4 * i)
-unfolding peaksFrom ithOf
-peaks-at s at zero i h = absurd (omega arith)
-peaks-at s at (suc n) i h =
-    let len = peaks-length s at n in
-    let ih : i < n → ithOf (peaksFrom s at n) i ≡ peakFrom s (at + 4 * i) = peaks-at s at n i in
-    elim (decLt i n) [
-      | yes l ↦ List·getD-append (peaksFrom s at n) (peakFrom s (at + 4 * n) ∷ []) _ i (omega arith) ∙ ih l
-      | no m ↦
-          let e : i ≡ n = omega arith in
-          rw e (getD-at (peaksFrom s at n) (peakFrom s (at + 4 * n)) [] _ n len)
-    ]
+unfolding ithOf
+peaks-at s at n i h = grows-at (peaks-grow s at n) _ n i (omega arith) h
 
 -- ---- a lent row that is filled from the front
 
@@ -144,9 +151,9 @@ fill-step xs old i d v e h =
 pub heights-fill :
     (f : List ℕ) (old : List ℤ) (i : ℕ) → i < length old →
     set (heightsIn f i ++ drop i old) i (signedOf (wordAt f (6 + i))) ≡ heightsIn f (suc i) ++ drop (suc i) old
-unfolding heightsIn
+unfolding heightsFrom
 heights-fill f old i h =
-    fill-step (heightsIn f i) old i BLANK (signedOf (wordAt f (6 + i))) (heights-length f i) h
+    fill-step (heightsIn f i) old i BLANK (signedOf (wordAt f (6 + i))) (heights-length f 6 i) h
 
 module _ (old : List Peak) (f : List ℕ) (cells : ℕ) where
   pub filled-start : filledFrom old f cells 0 ≡ old

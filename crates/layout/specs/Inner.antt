@@ -7,6 +7,7 @@
 --     Puttable s cells ps count, laid          the room s takes so many of the records ps; s with them
 --     Takable ps f cells count, filledFrom     the table ps takes so many of the records of f; ps with them
 --     putOf, cellsToTake, recordsToTake        how many an answer says are to be put or taken
+--     Handable, HandedOut                      an answer whose records can be laid into a table of bytes, and how
 -- Assumes nothing.
 use mathlib.Core.Bool.{Bool}
 use mathlib.Core.List.{List, [], _∷_, _++_, map}
@@ -15,8 +16,11 @@ use Prim.Native.Nat.{ℕ, _+_, _*_, _≤_, _<_}
 use lib.IntN.{ℤ}
 use lib.ListN.{length, take, drop}
 use Rattle.record.specs.declared.Peak.{Peak}
+use Rattle.record.specs.declared.Handed.{Handed}
+use Rattle.record.specs.declared.Handed.the-variants as handed
 use Rattle.record.specs.declared.Refusal.{Refusal}
-use Rattle.record.specs.Refusals.{granted, toldBy}
+use Rattle.record.specs.Refusals.{granted, toldBy, handedTold}
+use Rattle.table.specs.Inner.{Standing, recordsIn, countIn}
 use Rattle.layout.specs.declared.Written.{Written}
 use Rattle.layout.specs.declared.Written.the-variants as written
 use Rattle.layout.specs.declared.ReadBack.{ReadBack}
@@ -24,6 +28,7 @@ use Rattle.layout.specs.declared.ReadBack.the-variants as read-back
 use Rattle.layout.specs.Layout.{bitsOf, bytesOf, totalOf, headerOf, allFieldsOf, cellsIn, heightsIn}
 use Rattle.layout.specs.Layout.{recordsFrom}
 use Rattle.layout.specs.Promises.{writtenTold, writeTests, roomAfter, readTests, lentAfter, ReadAnswers}
+use Rattle.layout.specs.Promises.{signedTold, bytesAfter}
 
 -- The tests of the grid, which stand first in the order of `write`; those of the file's grid and of its whole header,
 -- which stand first in that of `read`. They look at no record and nothing lent.
@@ -86,3 +91,12 @@ cellsToTake (read-back.Refused r) = 0
 abbrev pub recordsToTake : ReadBack → ℕ
 recordsToTake (read-back.Run rows columns peaks) = peaks
 recordsToTake (read-back.Refused r) = 0
+
+-- An answer whose records stand in the work area and fit the table.
+abbrev pub Handable : Handed → List ℕ → ℕ → List ℕ → Type 0
+Handable answer work cells table =
+    (n : ℕ) → answer ≡ handed.Count n → Standing work cells n × (16 * n ≤ length table)
+
+pub record HandedOut (answer : Handed) (work : List ℕ) (cells : ℕ) (table table′ : List ℕ) (a : ℤ) : Type 0 where
+  pub told : a ≡ signedTold (handedTold answer)
+  pub filled : table′ ≡ bytesAfter a (recordsIn work cells (countIn answer)) table

@@ -7,7 +7,7 @@
 --     numbersOf rows heights records            the 32-bit numbers of a file, in their order
 --     fileOf rows heights records               its bytes
 --     rowsIn, columnsIn, peaksIn, cellsIn f     what a file's header says
---     heightsIn f n                             the first n heights of a file
+--     heightsFrom s at n, heightsIn f n         n heights from the at-th number of s on; the first n of a file
 --     peakFrom s at, peaksFrom s at n           the record whose first number is the at-th of s, n records from it on
 --     recordFrom f cells i, recordsFrom f cells n    the i-th record of a file of so many cells, the first n of them
 -- A file read is a list of bytes, and wordAt f i its i-th number. Assumes nothing.
@@ -78,10 +78,14 @@ peaksIn f = wordAt f 2
 abbrev pub cellsIn : List ℕ → ℕ
 cellsIn f = rowsIn f * columnsIn f
 
--- The header has six numbers.
-unfoldable pub heightsIn : List ℕ → ℕ → List ℤ
-heightsIn f zero = []
-heightsIn f (suc i) = heightsIn f i ++ (signedOf (wordAt f (6 + i)) ∷ [])
+-- So many heights, the first of which is the at-th number.
+unfoldable pub heightsFrom : List ℕ → ℕ → ℕ → List ℤ
+heightsFrom s at zero = []
+heightsFrom s at (suc i) = heightsFrom s at i ++ (signedOf (wordAt s (at + i)) ∷ [])
+
+-- Those of a file stand behind its header, which has six numbers.
+abbrev pub heightsIn : List ℕ → ℕ → List ℤ
+heightsIn f n = heightsFrom f 6 n
 
 -- A record is four numbers, the first of which is the at-th.
 unfoldable pub peakFrom : List ℕ → ℕ → Peak

@@ -7,24 +7,33 @@
 --                                             entries
 --     roomAfter, lentAfter a new old          what is lent at an answer: new on success, old at a refusal
 --     ReadAnswers f heights table a           a is the answer of `read`
+--     signedTold told                         what a call tells, as one signed number
+--     bytesAfter a records table              the bytes of a table after an answer that hands out these records
+--     HandsBytes                              `Hands` of `table`, with the table as bytes and the answer as that number
 -- Assumes nothing.
 use mathlib.Core.Bool.{Bool, not, _||_}
-use mathlib.Core.List.{List, [], _∷_}
+use mathlib.Core.List.{List, [], _∷_, _++_, map}
 use mathlib.Core.Path.{_≡_}
-use Prim.Native.Nat.{ℕ, _+_, _*_, _%_}
+use Prim.Native.Nat.{ℕ, zero, suc, _+_, _*_, _/_, _%_}
 use lib.Dec.{eqb, ltb}
-use lib.ListN.{length}
+use lib.IntN.{ℤ, pos, negsuc}
+use lib.ListN.{length, drop, getD}
+use Rattle.relief.specs.Peaks.{Entry}
+use Rattle.record.specs.declared.Peak.{Peak}
 use Rattle.record.specs.declared.Refusal.{Refusal}
 use Rattle.record.specs.declared.Refusal.the-variants.{Rows, Length, Cells, Table, FileLength, FileCounts}
 use Rattle.record.specs.declared.Refusal.the-variants.{Unsound, Room}
+use Rattle.record.specs.Records.{recordOf}
 use Rattle.record.specs.Refusals.{Told, granted, toldOf, toldBy, badRows}
 use Rattle.words.specs.Words.{wordAt}
+use Rattle.table.specs.Promises.{handedBy, Worked}
 use Rattle.sound.specs.Sound.{FirstUnsound}
 use Rattle.layout.specs.declared.Written.{Written}
 use Rattle.layout.specs.declared.Written.the-variants as written
 use Rattle.layout.specs.declared.ReadBack.{ReadBack}
 use Rattle.layout.specs.declared.ReadBack.the-variants as read-back
-use Rattle.layout.specs.Layout.{totalOf, rowsIn, columnsIn, peaksIn, cellsIn, heightsIn, recordsFrom}
+use Rattle.layout.specs.Layout.{bytesOf, allFieldsOf, totalOf, rowsIn, columnsIn, peaksIn, cellsIn, heightsIn}
+use Rattle.layout.specs.Layout.{recordsFrom}
 
 -- ---- writing
 
@@ -99,3 +108,29 @@ pub record ReadAnswers (f : List ℕ) (heights table : ℕ) (a : ReadBack) : Typ
   pub answered :
       readTold a
       ≡ toldBy (readTests f heights table unsound) (granted (rowsIn f ∷ columnsIn f ∷ peaksIn f ∷ []))
+
+-- ---- records handed out as bytes
+
+-- "one signed number, the record count or minus the refusal number" (`negsuc n` is -(n + 1)); "at 5 it doesn't tell the
+-- number needed".
+abbrev pub signedBy : ℕ → List ℕ → ℤ
+signedBy zero values = pos (getD values 0 0)
+signedBy (suc n) values = negsuc n
+
+abbrev pub signedTold : Told → ℤ
+signedTold told = signedBy (told .number) (told .values)
+
+-- "passes [..] records as bytes, in the file's layouts". "A refusal [..] writes nothing"; "On success [..] bytes [..]
+-- beyond those counted stay as they were."
+abbrev pub bytesAfter : ℤ → List Peak → List ℕ → List ℕ
+bytesAfter (pos n) records table = bytesOf (allFieldsOf records) ++ drop (16 * n) table
+bytesAfter (negsuc n) records table = table
+
+-- "its table counts as many records as fit whole": a record has 16 bytes.
+pub record HandsBytes (tests : List (Bool × Refusal)) (cells : ℕ) (Right : List Entry → Type 0)
+    (work work′ table table′ : List ℕ) (answer : ℤ) : Type 0 where
+  pub entries : List Entry
+  pub right : Right entries
+  pub answered : answer ≡ signedTold (handedBy tests (length table / 16) (length entries))
+  pub filled : table′ ≡ bytesAfter answer (map recordOf entries) table
+  pub worked : Worked tests cells work work′

@@ -1,6 +1,2 @@
-mod Numbers
-mod Peaks
-mod ColumnTable
-mod Row
-mod ReadTable
+mod RunFiles
 pub mod Claims

@@ -1,20 +1,26 @@
 -- What is claimed of the timed calls beyond their contracts.
 --     MeterColumnUnique, MeterWriteUnique, MeterReadUnique    two answers that a promise allows are equal, and so is
---                                                             all that was lent
+--                                                             all that was lent, the bytes of the work area that are
+--                                                             used apart
 --     Claims                                                  all of these
 -- Assumes nothing.
 use mathlib.Core.Path.{_≡_}
 use mathlib.Core.List.{List}
-use Prim.Native.Nat.{ℕ}
+use Prim.Native.Nat.{ℕ, _+_}
 use lib.IntN.{ℤ}
-use Rattle.meter.specs.Metered.{MeterColumns, MeterWrites, MeterReads}
+use lib.ListN.{length}
+use Rattle.table.specs.Promises.{Worked}
+use Rattle.run.specs.declared.Run.{Run}
+use Rattle.run.specs.Promises.{heldOf, columnTests}
+use Rattle.meter.specs.Promises.{MeterColumns, MeterWrites, MeterReads}
 
 abbrev pub MeterColumnUnique : Type 0
 MeterColumnUnique =
-    (rows columns T : ℕ) (column grid g h : List ℤ) (work : ℕ) (table t u : List ℕ) (a b : ℤ)
-    → MeterColumns rows columns T column grid g work table t a
-    → MeterColumns rows columns T column grid h work table u b
-    → (a ≡ b) × (g ≡ h) × (t ≡ u)
+    (run : Run) (column grid g h : List ℤ) (work w v table t u : List ℕ) (a b : ℤ)
+    → MeterColumns run column grid g work w table t a
+    → MeterColumns run column grid h work v table u b
+    → ((a ≡ b) × (t ≡ u) × Worked (columnTests run (length column) (length grid) (length work)) (heldOf run + run .rows)
+    w v) × (g ≡ h)
 
 abbrev pub MeterWriteUnique : Type 0
 MeterWriteUnique =

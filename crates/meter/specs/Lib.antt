@@ -1,3 +1,3 @@
-pub mod Numbers
-pub mod Metered
+pub mod Promises
+pub mod Inner
 pub mod Claims

@@ -3,7 +3,6 @@ ghost use Rattle.table.specs.Inner.{Standing};
 use layout::ReadBack;
 use libc::STDIN_FILENO;
 use libc::STDOUT_FILENO;
-use record::Cell;
 use record::Handed;
 use record::Peak;
 
@@ -35,14 +34,6 @@ fn say_refusal(number: u32) {
     say(b"\n");
 }
 
-// The prominence. A record of the list has its key height below its height.
-fn drop_of(height: i32, key: i32) -> u32 {
-    if key <= height {
-        return record::prominence(height, key);
-    }
-    0
-}
-
 // Writes key height, pass cell and prominence, or that they are missing.
 fn say_key(peak: Peak) {
     if !peak.has_key() {
@@ -54,7 +45,7 @@ fn say_key(peak: Peak) {
     say(b" ");
     say_count(peak.pass);
     say(b" ");
-    say_count(drop_of(peak.height, peak.key));
+    say_count(record::prominence(peak.height, peak.key));
     say(b"\n");
 }
 
@@ -105,13 +96,10 @@ fn is_large(file: &[u8]) -> bool {
         return false;
     }
     let rows = words::get(file, 0);
-    if rows == 0 {
+    if record::bad_rows(rows) {
         return false;
     }
-    if Cell::MAX_ROWS < rows {
-        return false;
-    }
-    MOST_CELLS < layout::cells_of(rows, words::get(file, 1))
+    MOST_CELLS < layout::grid_cells(rows, words::get(file, 1))
 }
 
 // Reads a run file and writes the list of its heights. The stored records are read for soundness only.
@@ -123,7 +111,7 @@ fn list_file(file: &[u8]) {
             columns,
             peaks: _,
         } => {
-            let cells = layout::cells_of(rows, columns);
+            let cells = layout::grid_cells(rows, columns);
             if cells <= MOST_CELLS {
                 say_list(rows, columns, &heights[0..cells]);
             }

@@ -12,7 +12,7 @@ use lib.IntN.{ℤ}
 use lib.ListN.{length, getD, take, drop}
 use lib.Seq.{take-at}
 use Rattle.relief.specs.Plane.{planeOf, touchOf}
-use Rattle.relief.proofs.Plane.{plane-symmetric}
+use Rattle.relief.proofs.Shapes.{touch-symmetric}
 use Rattle.record.specs.declared.Peak.{Peak}
 use Rattle.record.specs.Records.{recordOf}
 use Rattle.record.specs.Refusals.{granted, toldBy}
@@ -28,7 +28,7 @@ use Rattle.layout.specs.Promises.{writeTests, roomAfter, readTests, ReadAnswers
 use Rattle.layout.specs.Inner.{cellsToTake, recordsToTake}
 use Rattle.layout.proofs.Files.{file-length, file-rows, file-columns, file-peaks, file-offset, file-offset-2}
 use Rattle.layout.proofs.Files.{file-total, back-cells, back-heights, back-records, read-file}
-use Rattle.layout.proofs.ReadAnswer.{Readable, readable-good, read-readable, read-same, read-differ}
+use Rattle.layout.proofs.ReadAnswer.{Readable, readable-good, read-readable, read-same, read-differ, answers-unique}
 use Rattle.layout.proofs.Rows.{heights-length, peaks-length}
 use Rattle.sound.proofs.Scans.{first-unique, first-all, first-few}
 use Rattle.layout.proofs.WriteAnswer.{Gridded, written-bytes, written-differ}
@@ -48,15 +48,6 @@ write-unique rows hs ps s r r′ a a′ w w′ =
     (first-unique (w .first) (w′ .first))
     ∙ sym (w′ .answered)) in
     (same, w .room ∙ ap (λ (b : Written). roomAfter b (fileOf rows hs ps ++ drop total s) s) same ∙ sym (w′ .room))
-
-pub answers-unique : {f : List ℕ} {heights table : ℕ} {a b : ReadBack} → ReadAnswers f heights table a
-    → ReadAnswers f heights table b → a ≡ b
-answers-unique {f} {heights} {table} {a} {b} j k =
-    read-differ a b
-    (j .answered
-    ∙ ap (λ (u : ℕ). toldBy (readTests f heights table u) (granted (rowsIn f ∷ columnsIn f ∷ peaksIn f ∷ [])))
-    (first-unique (j .first) (k .first))
-    ∙ sym (k .answered))
 
 read-unique : ReadUnique
 read-unique f hs h h′ ps t t′ a a′ r r′ =
@@ -139,7 +130,7 @@ reads-back-writes rows hs s s′ ps t t′ room room′ w a grid all long room-s
 lists-read-back : ListsReadBack
 lists-read-back rows hs s s′ T l t t′ room room′ w a grid listed =
     reads-back-writes rows hs s s′ (map recordOf l) t t′ room room′ w a grid
-    (sound-claims .list-sound (touchOf (planeOf rows)) (plane-symmetric rows) hs (grid .fit)
+    (sound-claims .list-sound (touchOf (planeOf rows)) (touch-symmetric (planeOf rows)) hs (grid .fit)
     (omega (arith, grid .cells)) T l listed)
 
 -- ---- read and written back
@@ -153,7 +144,7 @@ module _ {f : List ℕ} {heights table u : ℕ} (bytes : (k : ℕ) → getD f k 
   file-written room room′ w long writes =
       let hs = heightsIn f (cellsIn f) in
       let ps = recordsFrom f (cellsIn f) (peaksIn f) in
-      let cells = heights-length f (cellsIn f) in
+      let cells = heights-length f 6 (cellsIn f) in
       let peaks = peaks-length f (6 + cellsIn f) (peaksIn f) in
       let same = first-unique (writes .first) first in
       let total : totalOf (length hs) (length ps) ≡ length f =
@@ -180,7 +171,7 @@ writes-back-reads f s s′ t t′ rows columns peaks room room′ w bytes long r
     let rows-are : rows ≡ rowsIn f = cc in
     let heights : take (rows * columns) s′ ≡ hs =
     ap (take (rows * columns)) (reads .heights)
-    ∙ take-at hs (drop (cellsIn f) s) (rows * columns) (heights-length f (cellsIn f) ∙ sym cells) in
+    ∙ take-at hs (drop (cellsIn f) s) (rows * columns) (heights-length f 6 (cellsIn f) ∙ sym cells) in
     let records : take peaks t′ ≡ ps =
     ap (take peaks) (reads .table)
     ∙ take-at ps (drop (peaksIn f) t) peaks (peaks-length f (6 + cellsIn f) (peaksIn f) ∙ sym count) in

@@ -14,7 +14,7 @@ use mir.Val.{SFits}
 use Rattle.relief.specs.Heights.{BLANK, levelOf, heightOf, levels}
 use Rattle.relief.specs.Peaks.{Key, missing, key, Entry, Member, Rising, KeyOf, PeakEntry, Listed}
 use Rattle.relief.proofs.Keys.{key-land, key-below}
-use Rattle.relief.proofs.PlaneRun.{heightOf-level}
+use Rattle.relief.proofs.Levels.{heightOf-level}
 use Rattle.record.specs.declared.Peak.{Peak}
 use Rattle.record.specs.Records.{keyRecord, recordOf}
 use Rattle.record.proofs.Levels.{level-below, level-injective, level-blank-iff, level-lt-iff}

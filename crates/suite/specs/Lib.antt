@@ -1,2 +1,3 @@
-pub mod Entry
+pub mod Promises
+pub mod Inner
 pub mod Claims

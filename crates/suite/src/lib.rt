@@ -3,11 +3,16 @@ ghost use mathlib.Core.Path.{_≡_};
 ghost use Prim.Native.Nat.{_*_, _≤_};
 ghost use lib.ListN.{length};
 ghost use Rattle.relief.specs.Heights.{levelOf};
+ghost use Rattle.record.specs.Refusals.{firstOf};
 ghost use Rattle.area.specs.Area.{Area};
-ghost use Rattle.layout.specs.Layout.{signedOf};
 ghost use Rattle.survey.specs.Answers.{Loaded};
-ghost use Rattle.suite.specs.Entry.{heightsOf, SuiteLists};
+ghost use Rattle.layout.specs.Layout.{signedOf, heightsFrom};
+ghost use Rattle.suite.specs.Promises.{suiteTests, SuiteLists};
+ghost use Rattle.suite.specs.Inner.{SuiteFlat, GoodBytes};
 use record::Cell;
+use record::Checked;
+use record::Handed;
+use record::Refusal;
 
 // Flips the highest bit: the two's complement of a height becomes its level.
 fn flip(w: u32) -> u32
@@ -22,12 +27,46 @@ fn flip(w: u32) -> u32
 // Puts the levels of the first `n` heights of lent bytes into the first quarter.
 fn load_bytes(work: &mut [u8], heights: &[u8], n: usize)
     requires { ⌜ Area (now work) n × (4 * n ≤ length (now heights)) ⌝ }
-    ensures { λ r. ⌜ Loaded (now (work .entry)) (now (work .exit)) (heightsOf (now (heights .entry)) n) n ⌝ }
+    ensures { λ r. ⌜ Loaded (now (work .entry)) (now (work .exit)) (heightsFrom (now (heights .entry)) 0 n) n ⌝ }
 {
     let mut c = 0;
     while c < n {
         words::put(work, c, flip(words::get(heights, c)));
         c += 1;
+    }
+}
+
+// The tests before the work, in the paper's order.
+fn check(rows: u32, bytes: usize, work: usize) -> Checked
+    ensures { λ r. ⌜ r ≡ firstOf (suiteTests rows bytes work) ⌝ }
+{
+    let cells = bytes / 4;
+    let uneven = record::uneven(bytes, 4 * words::index(rows));
+    let checked = record::then_test(Checked::Good, record::bad_rows(rows), Refusal::Rows);
+    let checked = record::then_test(checked, uneven, Refusal::Length);
+    let checked = record::then_test(checked, Cell::MAX_CELLS < cells, Refusal::Cells);
+    record::then_test(checked, record::short_work(work, cells), Refusal::Work)
+}
+
+// The list of a grid that passed the tests before the work.
+fn list_good(rows: u32, heights: &[u8], threshold: u32, work: &mut [u8], room: usize) -> Handed
+    requires { ⌜ GoodBytes rows (length (now heights)) (length (now work)) ⌝ }
+    ensures { λ r. ⌜ SuiteFlat rows (now (heights .entry)) threshold (now (work .entry)) room (now (work .exit)) r ⌝ }
+{
+    let n = heights.len() / 4;
+    load_bytes(work, heights, n);
+    let count = survey::whole(work, n, words::index(rows), threshold);
+    table::room_answer(count, room)
+}
+
+// The call without the table, of which only the room counts: the records are left in the work area.
+fn list_flat(rows: u32, heights: &[u8], threshold: u32, work: &mut [u8], room: usize) -> Handed
+    ensures { λ r. ⌜ SuiteFlat rows (now (heights .entry)) threshold (now (work .entry)) room (now (work .exit)) r ⌝ }
+{
+    let checked = check(rows, heights.len(), work.len());
+    match checked {
+        Checked::Bad(refusal) => Handed::Refused(refusal),
+        Checked::Good => list_good(rows, heights, threshold, work, room),
     }
 }
 
@@ -44,29 +83,6 @@ pub extern "C" fn mayexoton_list(
     ensures { λ r. ⌜ SuiteLists rows (now (heights .entry)) threshold (now (work .entry)) (now (work .exit))
         (now (table .entry)) (now (table .exit)) r ⌝ }
 {
-    if rows == 0 {
-        return -1;
-    }
-    if Cell::MAX_ROWS < rows {
-        return -1;
-    }
-    let r = words::index(rows);
-    let bytes = heights.len();
-    if bytes % (4 * r) != 0 {
-        return -2;
-    }
-    let n = bytes / 4;
-    if Cell::MAX_CELLS < n {
-        return -3;
-    }
-    if work.len() < 16 * n {
-        return -4;
-    }
-    load_bytes(work, heights, n);
-    let count = survey::whole(work, n, r, threshold);
-    if table.len() / 16 < count {
-        return -5;
-    }
-    layout::lay_records(table, work, n, count);
-    count as i64
+    let handed = list_flat(rows, heights, threshold, work, table.len() / 16);
+    layout::hand_out(table, work, heights.len() / 4, handed)
 }

@@ -2,39 +2,42 @@
 -- (`Scanned`). A turn takes the scan past it; what is left of the row falls. Assumes nothing.
 use mathlib.Core.List.{List}
 use mathlib.Core.Path.{_≡_, sym, ap, _∙_, subst}
-use Prim.Native.Nat.{ℕ, _+_, _-_, _/_, _≤_, _<_}
+use Prim.Native.Nat.{ℕ, _+_, _-_, _*_, _/_, _≤_, _<_}
 use native.Mathlib.Omega.{arith}
 use denote.Ref.{now}
 use lib.IntN.{ℤ}
 use lib.ListN.{length}
 use borrow.Author.Needs.{needs}
 use Rattle.record.specs.declared.Peak.{Peak}
-use Rattle.layout.specs.Sound.{FirstUnsound}
-use Rattle.layout.specs.Steps.{Scans, scannedOf}
-use Rattle.layout.proofs.Sound.{Scanned, scanned-start, scanned-step, scanned-done}
-use Rattle.meter.specs.Metered.{peakOf, peaksOf}
-use Rattle.meter.proofs.Peaks.{peaks-length, peaks-at}
+use Rattle.sound.specs.Sound.{FirstUnsound}
+use Rattle.sound.specs.Inner.{Scans, scannedOf}
+use Rattle.sound.proofs.Scans.{Scanned, scanned-start, scanned-step, scanned-done}
+use Rattle.layout.specs.Layout.{peakFrom, peaksFrom}
+use Rattle.layout.proofs.Rows.{peaks-length, peaks-at}
 use Rattle.meter.proofs.first_unsound.Statement.{statement}
 use Rattle.meter.proofs.first_unsound.Tie as tie
 
 -- ---- a scan of n records
 
 abbrev ScannedOf : List ℤ → List ℕ → ℕ → ℕ → ℕ → Type 0
-ScannedOf hs s n i state = (i ≤ n) × Scanned hs (peaksOf s n) i state
+ScannedOf hs s n i state = (i ≤ n) × Scanned hs (peaksFrom s 0 n) i state
 
 module _ (hs : List ℤ) (s : List ℕ) (n : ℕ) {i state : ℕ} (h : ScannedOf hs s n i state) where
-  scan-on : {p : Peak} {next : ℕ} → i < n → p ≡ peakOf s i → Scans hs state i p next → ScannedOf hs s n (i + 1) next
-  scan-on {p} {next} l e t = (
-    omega arith,
-    scanned-step (h .1) (omega (arith, peaks-length s n))
-        (subst (λ (q : Peak). Scans hs state i q next) (e ∙ sym (peaks-at s n i l)) t),
-  )
+  scan-on : {p : Peak} {next : ℕ} → i < n → p ≡ peakFrom s (4 * i) → Scans hs state i p next
+      → ScannedOf hs s n (i + 1) next
+  scan-on {p} {next} l e t =
+      let place : 4 * i ≡ 0 + 4 * i = omega arith in (
+        omega arith,
+        scanned-step (h .1) (omega (arith, peaks-length s 0 n))
+            (subst (λ (q : Peak). Scans hs state i q next)
+            (e ∙ ap (peakFrom s) place ∙ sym (peaks-at s 0 n i l)) t),
+      )
 
-  scan-end : {r : ℕ} → n ≤ i → r ≡ scannedOf state n → FirstUnsound hs (peaksOf s n) r
+  scan-end : {r : ℕ} → n ≤ i → r ≡ scannedOf state n → FirstUnsound hs (peaksFrom s 0 n) r
   scan-end {r} l e =
-      let len = peaks-length s n in
+      let len = peaks-length s 0 n in
       let below = h .0 in
-      subst (FirstUnsound hs (peaksOf s n)) (ap (scannedOf state) len ∙ sym e)
+      subst (FirstUnsound hs (peaksFrom s 0 n)) (ap (scannedOf state) len ∙ sym e)
       (scanned-done (h .1) (omega arith))
 
 -- ---- the answers
@@ -48,8 +51,8 @@ abbrev μ-loop : tie.MeasureT-loop
 loop-holds : tie.Need-loop-holds Inv-loop μ-loop
 loop-holds c = (omega arith, scanned-start _ _)
 
-peak-of-requires : tie.Need-peak-of-requires Inv-loop μ-loop
-peak-of-requires c κs = omega arith
+peak-from-requires : tie.Need-peak-from-requires Inv-loop μ-loop
+peak-from-requires c κs = omega arith
 
 scan-requires : tie.Need-scan-requires Inv-loop μ-loop
 scan-requires c κs = omega arith
@@ -65,7 +68,7 @@ loop-again c =
     let at-loop = c .before .before .before in
     let a = at-loop .before .before .args in
     scan-on (now (a .heights)) (now (a .records)) (length (now (a .records)) / 16) (at-loop .loop .inv)
-    (c .before .before .loop-test .taken) (c .before .peak-of .ensures) (c .scan .ensures)
+    (c .before .before .loop-test .taken) (c .before .peak-from .ensures) (c .scan .ensures)
 
 returns : tie.Need-returns Inv-loop μ-loop
 returns c =
@@ -81,7 +84,8 @@ first-unsound-spec =
     Inv-loop
     μ-loop
     loop-holds
-    peak-of-requires
+    (λ c. omega arith)
+    peak-from-requires
     scan-requires
     add-i
     loop-less

@@ -1,15 +1,17 @@
 -- `meter::meter_write` meets its contract. Where the answer is a number of bytes, header, heights and records are laid
 -- one behind the other (`row-written`); at a refusal nothing is laid. Assumes nothing.
-use mathlib.Core.Path.{_∙_, ap}
-use Prim.Native.Nat.{_/_}
+use mathlib.Core.List.{List}
+use mathlib.Core.Path.{ap, _∙_}
+use Prim.Native.Nat.{ℕ, _+_, _*_}
+use native.Mathlib.Omega.{arith}
 use denote.Ref.{now}
 use lib.ListN.{length}
 use mir.Syntax.{w64}
 use mir.ValLaws.{toZ-ofZ}
 use borrow.Author.Needs.{needs}
-use Rattle.layout.specs.Steps.{laid}
-use Rattle.meter.specs.Metered.{peaksOf}
-use Rattle.meter.proofs.Row.{row-few, row-puttable, row-written}
+use Rattle.layout.specs.Layout.{bytesOf, allFieldsOf, peaksFrom}
+use Rattle.layout.specs.Inner.{over}
+use Rattle.meter.proofs.RunFiles.{row-few, row-copyable, row-written}
 use Rattle.meter.proofs.meter_write.Statement.{statement}
 use Rattle.meter.proofs.meter_write.Tie as tie
 
@@ -19,33 +21,33 @@ put-grid-requires c κs =
     let a = at-first .before .before .before .args in
     row-few (now (a .heights)) (now (a .records)) (at-first .first-unsound .result) (at-first .first-unsound .ensures)
 
-lay-records-requires : tie.Need-lay-records-requires
-lay-records-requires c κs =
+copy-records-requires : tie.Need-copy-records-requires
+copy-records-requires c κs =
     let at-grid = c .before .before .before .before in
     let at-first = at-grid .before .before in
     let a = at-first .before .before .before .args in
     let grid = at-grid .put-grid in
     rw (c .before .records-to-put .ensures)
-    (row-puttable (now (a .heights)) (now (a .records)) (at-first .first-unsound .result) (a .rows) (now (a .room))
+    (row-copyable (now (a .heights)) (now (a .records)) (at-first .first-unsound .result) (a .rows) (now (a .room))
     (grid .last .1 .1 .1 .1 .0) (grid .result) (grid .ensures) (grid .kept .1 .1 .1 .1 .0))
 
 returns : tie.Need-returns
 returns c =
-    let at-lay = c .before .before .before in
-    let at-count = at-lay .before .before in
+    let at-copy = c .before .before .before in
+    let at-count = at-copy .before .before in
     let at-grid = at-count .before .before .before in
     let at-first = at-grid .before .before in
     let a = at-first .before .before .before .args in
     let grid = at-grid .put-grid in
     let zs = grid .last .1 .1 .1 .1 .0 in
-    let row = peaksOf (now (a .records)) (length (now (a .records)) / 16) in
     record {
       written = grid .result;
       writes =
           row-written (now (a .heights)) (now (a .records)) (at-first .first-unsound .result) (a .rows)
           (now (a .room)) zs (grid .result) (grid .ensures) (at-first .first-unsound .ensures)
-          (at-lay .lay-records .ensures
-          ∙ ap (laid zs (length (now (a .heights))) row) (at-count .records-to-put .ensures));
+          (at-copy .copy-records .ensures
+          ∙ ap (λ (n : ℕ). over zs (4 * (6 + length (now (a .heights))))
+          (bytesOf (allFieldsOf (peaksFrom (now (a .records)) 0 n)))) (at-count .records-to-put .ensures));
       answered = toZ-ofZ w64 _ (record { sfits = c .written-number .ok }) ∙ c .written-number .ensures;
     }
 
@@ -56,7 +58,8 @@ meter-write-spec =
     (λ c κs. search needs)
     put-grid-requires
     (λ c κs. search needs)
-    lay-records-requires
+    (λ c. search needs)
+    copy-records-requires
     (λ c κs. search needs)
     (λ c. search needs)
     returns)

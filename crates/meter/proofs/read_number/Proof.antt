@@ -5,19 +5,22 @@ use native.Mathlib.Omega.{arith}
 use mir.Syntax.{w64}
 use mir.ValLaws.{toZ-ofZ}
 use borrow.Author.Needs.{needs}
-use Rattle.meter.specs.Numbers.{readNumber}
-use Rattle.meter.proofs.Numbers.{count-read}
+use Rattle.layout.specs.declared.ReadBack.{ReadBack}
+use Rattle.layout.specs.Promises.{signedTold}
+use Rattle.meter.specs.Promises.{countTold}
+use Rattle.layout.proofs.HandedBytes.{count-read}
 use Rattle.meter.proofs.read_number.Statement.{statement}
 use Rattle.meter.proofs.read_number.Tie as tie
 
 returns : tie.Need-returns
 returns c =
-    count-read (c .before .back .given .0 .1 .1 .0) (omega arith) ∙ sym (ap readNumber (c .before .back .given .1))
+    count-read (c .before .back .given .0 .1 .1 .0) (omega arith)
+    ∙ sym (ap (λ (a : ReadBack). signedTold (countTold a)) (c .before .back .given .1))
 
 returns-2 : tie.Need-returns-2
 returns-2 c =
     toZ-ofZ w64 _ (record { sfits = c .refused-number .ok }) ∙ c .refused-number .ensures
-    ∙ sym (ap readNumber (c .before .before .back2 .given .1))
+    ∙ sym (ap (λ (a : ReadBack). signedTold (countTold a)) (c .before .before .back2 .given .1))
 
 pub read-number-spec : {M : Type 1} → statement M
 read-number-spec =

@@ -5,19 +5,21 @@ use native.Mathlib.Omega.{arith}
 use mir.Syntax.{w64}
 use mir.ValLaws.{toZ-ofZ}
 use borrow.Author.Needs.{needs}
-use Rattle.meter.specs.Numbers.{writtenNumber}
-use Rattle.meter.proofs.Numbers.{count-read}
+use Rattle.layout.specs.declared.Written.{Written}
+use Rattle.layout.specs.Promises.{writtenTold, signedTold}
+use Rattle.layout.proofs.HandedBytes.{count-read}
 use Rattle.meter.proofs.written_number.Statement.{statement}
 use Rattle.meter.proofs.written_number.Tie as tie
 
 returns : tie.Need-returns
 returns c =
-    count-read (c .before .written .given .0 .0) (omega arith) ∙ sym (ap writtenNumber (c .before .written .given .1))
+    count-read (c .before .written .given .0 .0) (omega arith)
+    ∙ sym (ap (λ (a : Written). signedTold (writtenTold a)) (c .before .written .given .1))
 
 returns-2 : tie.Need-returns-2
 returns-2 c =
     toZ-ofZ w64 _ (record { sfits = c .refused-number .ok }) ∙ c .refused-number .ensures
-    ∙ sym (ap writtenNumber (c .before .before .written2 .given .1))
+    ∙ sym (ap (λ (a : Written). signedTold (writtenTold a)) (c .before .before .written2 .given .1))
 
 pub written-number-spec : {M : Type 1} → statement M
 written-number-spec =

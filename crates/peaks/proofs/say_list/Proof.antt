@@ -7,7 +7,7 @@ say-records-requires : tie.Need-say-records-requires
 say-records-requires c κs =
     let at-answer = c .before .before .before in
     let at-flat = at-answer .before .before .before in
-    at-flat .flat .ensures .counted _ (at-answer .answer .given .1) .0
+    at-flat .flat .ensures .standing _ (at-answer .answer .given .1) .0
 
 pub say-list-spec : {M : Type 1} → statement M
 say-list-spec =

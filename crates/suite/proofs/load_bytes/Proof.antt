@@ -4,14 +4,14 @@
 use Prim.Native.Nat.{_-_}
 use native.Mathlib.Omega.{arith}
 use denote.Ref.{now}
-use Rattle.survey.proofs.Marks.{Loads, loads-start, loads-done}
-use Rattle.suite.specs.Entry.{heightsOf}
+use Rattle.survey.proofs.Loads.{Loads, loads-start, loads-done}
+use Rattle.layout.specs.Layout.{heightsFrom}
 use Rattle.suite.proofs.Heights.{loads-flip}
 use Rattle.suite.proofs.load_bytes.Statement.{statement}
 use Rattle.suite.proofs.load_bytes.Tie as tie
 
 abbrev Inv-loop : tie.InvT-loop
-Inv-loop work₀ heights n c₀ work c = Loads work₀ work (heightsOf heights n) n c
+Inv-loop work₀ heights n c₀ work c = Loads work₀ work (heightsFrom heights 0 n) n c
 
 abbrev μ-loop : tie.MeasureT-loop
 μ-loop work₀ heights n c₀ work c = n - c
@@ -19,7 +19,7 @@ abbrev μ-loop : tie.MeasureT-loop
 loop-holds : tie.Need-loop-holds Inv-loop μ-loop
 loop-holds c =
     let a = c .before .before .args in
-    loads-start (now (a .work)) (heightsOf (now (a .heights)) (a .n)) (a .n)
+    loads-start (now (a .work)) (heightsFrom (now (a .heights)) 0 (a .n)) (a .n) (c .before .slice-known .given)
 
 get-requires : tie.Need-get-requires Inv-loop μ-loop
 get-requires c κs = omega arith
@@ -46,12 +46,13 @@ loop-again c =
     let at-loop = at-test .before in
     loads-flip (now (at-loop .before .before .before .args .heights)) (at-loop .loop .inv)
     (at-test .loop-test .taken) (at-get .get .ensures) (at-put .before .flip .ensures) (at-put .put .ensures)
+    (c .slice-known2 .given)
 
 same-length : tie.Need-same-length Inv-loop μ-loop
 same-length c = c .before .loop .inv .len
 
 returns : tie.Need-returns Inv-loop μ-loop
-returns c = loads-done (c .before .loop .inv) (c .loop-test .left)
+returns c = loads-done (c .before .before .before .slice-known .given) (c .before .loop .inv) (c .loop-test .left)
 
 pub load-bytes-spec : {M : Type 1} → statement M
 load-bytes-spec =

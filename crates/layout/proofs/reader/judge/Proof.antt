@@ -75,7 +75,7 @@ first-unsound-in-requires c κs =
 narrow-requires : tie.Need-narrow-requires
 narrow-requires c κs =
     let at = at-good (c .before) in
-    omega (arith, first-few (first c), heights-length (file at) (cellsIn (file at)), whole at .fit)
+    omega (arith, first-few (first c), heights-length (file at) 6 (cellsIn (file at)), whole at .fit)
 
 narrow-requires-2 : tie.Need-narrow-requires-2
 narrow-requires-2 c κs =

@@ -10,7 +10,7 @@ use lib.ListN.{length, drop}
 use borrow.Author.Needs.{needs}
 use Rattle.layout.specs.declared.ReadBack.{ReadBack}
 use Rattle.layout.specs.declared.ReadBack.the-variants.{Run, Refused}
-use Rattle.layout.specs.Layout.{cellsIn, heightsIn}
+use Rattle.layout.specs.Layout.{cellsIn, heightsFrom, heightsIn}
 use Rattle.layout.specs.Promises.{ReadAnswers, lentAfter}
 use Rattle.layout.specs.Inner.{cellsToTake}
 use Rattle.layout.proofs.ReadAnswer.{read-readable, read-same}
@@ -31,7 +31,7 @@ module _ (f : List ℕ) (heights table : ℕ) where
       (hs : List ℤ) (a : ReadBack) → ReadAnswers f heights table a →
       heightsIn f (cellsToTake a) ++ drop (cellsToTake a) hs
       ≡ lentAfter a (heightsIn f (cellsIn f) ++ drop (cellsIn f) hs) hs
-  unfolding heightsIn
+  unfolding heightsFrom
   taken hs (Run rows columns peaks) j =
       ap (λ (n : ℕ). heightsIn f n ++ drop n hs)
       (ap cellsToTake (read-same f heights table (j .unsound) (j .answered)))

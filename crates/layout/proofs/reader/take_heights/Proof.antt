@@ -12,7 +12,7 @@ use mir.Syntax.{w32}
 use mir.Val.{SFits}
 use mir.ValLaws.{toZ-ofZ}
 use borrow.Author.Needs.{needs}
-use Rattle.layout.specs.Layout.{signedOf, heightsIn}
+use Rattle.layout.specs.Layout.{signedOf, heightsFrom, heightsIn}
 use Rattle.layout.proofs.Rows.{heights-length, heights-fill}
 use Rattle.layout.proofs.reader.take_heights.Statement.{statement}
 use Rattle.layout.proofs.reader.take_heights.Tie as tie
@@ -29,10 +29,10 @@ filled-length :
     length new ≡ length old
 filled-length f old new i h e =
     ap length e ∙ length-append (heightsIn f i) (drop i old)
-    ∙ omega (arith, heights-length f i, length-drop i old)
+    ∙ omega (arith, heights-length f 6 i, length-drop i old)
 
 loop-holds : tie.Need-loop-holds Inv-loop μ-loop
-unfolding heightsIn
+unfolding heightsFrom
 loop-holds c = (omega arith, refl)
 
 add-get : tie.Need-add-get Inv-loop μ-loop

@@ -20,13 +20,13 @@ returns c =
     let args = c4 .args in
     let fits : SFits w32 (c .signed .result) = record { sfits = c .signed .ok } in
     toZ-ofZ w32 (c .signed .result) fits ∙ c .signed .ensures ∙ ap signedOf (c .before .get .ensures)
-    ∙ sym (heights-at (now (args .file)) (args .cells) (args .cell) (omega arith))
+    ∙ sym (heights-at (now (args .file)) 6 (args .cells) (args .cell) (omega arith))
 
 returns-2 : tie.Need-returns-2
 returns-2 c =
     let args = c .before .before .args in
     let hs = heightsIn (now (args .file)) (args .cells) in
-    sym (List·getD-eq-default hs BLANK (omega (arith, heights-length (now (args .file)) (args .cells))))
+    sym (List·getD-eq-default hs BLANK (omega (arith, heights-length (now (args .file)) 6 (args .cells))))
 
 pub height-in-spec : {M : Type 1} → statement M
 height-in-spec =

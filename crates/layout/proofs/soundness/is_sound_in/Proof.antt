@@ -15,7 +15,7 @@ returns c =
     let hs = heightsIn (now (args .file)) (args .cells) in
     let here = c .before .before .before .height-in in
     let there = c .before .height-in2 in
-    c .is-sound .ensures hs (heights-length (now (args .file)) (args .cells))
+    c .is-sound .ensures hs (heights-length (now (args .file)) 6 (args .cells))
     (fetched hs (record { sfits = here .ok }) (here .ensures) (c4 .index .ensures))
     (fetched hs (record { sfits = there .ok }) (there .ensures) (c .before .before .index2 .ensures))
 
