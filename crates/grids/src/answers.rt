@@ -35,7 +35,7 @@ pub fn answer(
     let mut other = [0i64; 256];
     let count = by_second(call, rows, heights, threshold, out);
     let told = by_first(call, narrow(rows), heights, threshold, &mut other);
-    if told.refusal == 0 && alike(out, count, &other, told.count) {
+    if told.refusal == 0 && told.kept && alike(out, count, &other, told.count) {
         return count;
     }
     show_grid(rows, heights, threshold);

@@ -6,13 +6,15 @@ mod answers; // answers.rt: the one place where answers come from, both listers 
 mod backwards; // backwards.rt: the list of a grid that is read backwards
 mod both; // both.rt: one call of both listers, accepted or refused
 mod differs; // differs.rt: the line for a grid on which two answers differ
-mod first; // first.rt: the first lister, its records as the second one's
+mod first; // first.rt: the first lister's public calls, its records as the second one's
 mod forged; // forged.rt: run records that are refused
 mod growing; // growing.rt: both listers on made-up runs
+mod lend; // lend.rt: the public calls, lent a real row of records
 mod lists; // lists.rt: both listers on made-up grids
 mod paper; // paper.rt: the grids of the paper
 mod random; // random.rt: made-up grids
 mod records; // records.rt: rows of records
+mod row; // row.rt: rows of records to lend
 mod shortcuts; // shortcuts.rt: the short cuts that go wrong
 mod show; // show.rt: a line for each answer
 mod text; // text.rt: words and numbers on standard output
