@@ -120,7 +120,7 @@ fn lay(heights: &[i32], before: usize, grid: &mut [i32; MAX])
 }
 
 // What a cell of the grid holds: a height below `before`, and behind it a number that the lister must not take up.
-fn laid(heights: &[i32], before: usize, cell: usize) -> i32 {
+pub fn laid(heights: &[i32], before: usize, cell: usize) -> i32 {
     if cell >= before {
         return 77;
     }

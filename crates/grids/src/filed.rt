@@ -1,0 +1,150 @@
+// The run file of the paper's three-row grid at T = 1: written, read back, and refused.
+use crate::files::BYTES;
+use crate::files::Filed;
+use crate::files::Held;
+use crate::files::Taken;
+use crate::files::Told;
+use crate::files::front;
+use crate::files::list_of;
+use crate::files::read;
+use crate::files::write;
+use crate::same::same_back;
+use crate::text::say;
+use crate::text::say_count;
+use layout::ReadBack;
+use record::Peak;
+
+// Its 15 cells and 3 records are 24 + 60 + 48 bytes.
+pub fn run() {
+    let heights = [1, 9, 1, 1, 2, 1, 1, 5, 1, 1, 4, 1, 1, 7, 1];
+    let held = list_of(3, &heights, 1);
+    let filed = write(3, &heights, held, 132);
+    written(filed);
+    write_refused(&heights, held);
+    let file = filed.file;
+    read_back(front(&file, 132), &heights, held);
+    read_refused(front(&file, 132));
+}
+
+// Prints how many bytes the file has, and the numbers of its header.
+fn written(filed: Filed) {
+    let told = filed.told;
+    let file = filed.file;
+    say(b"file of the three-row grid: ");
+    say_count(told.number as u64);
+    say(b" bytes, header");
+    say_header(&file);
+}
+
+// Writes the six numbers of a header and ends the line.
+fn say_header(file: &[u8; BYTES]) {
+    for i in 0..6 {
+        say_number_at(file, 4 * i);
+    }
+    say(b"\n");
+}
+
+// Writes a space and the number that begins at a byte.
+fn say_number_at(file: &[u8; BYTES], start: usize) {
+    say(b" ");
+    say_count(number_at(file, start));
+}
+
+// The unsigned number that begins at a byte, the least byte first.
+fn number_at(file: &[u8; BYTES], start: usize) -> u64 {
+    if start > BYTES - 4 {
+        return 0;
+    }
+    wide(file[start])
+        | (wide(file[start + 1]) << 8)
+        | (wide(file[start + 2]) << 16)
+        | (wide(file[start + 3]) << 24)
+}
+
+fn wide(byte: u8) -> u64 {
+    byte as u64
+}
+
+// Writes into a room with a byte too little, and writes a record whose height is not that of its cell.
+fn write_refused(heights: &[i32], held: Held) {
+    let short = write(3, heights, held, 131);
+    show_told(b"file into a room of 131 bytes", b", needs ", short.told);
+    let wrong = write(3, heights, forged(held), 132);
+    show_told(
+        b"file with another height in record 1",
+        b", record ",
+        wrong.told,
+    );
+}
+
+fn forged(held: Held) -> Held {
+    let mut row = held.row;
+    row[1] = Peak::with_key(7, 6, 4, 10);
+    Held {
+        row: row,
+        count: held.count,
+    }
+}
+
+// Prints the counts that are read, and whether heights and records are those that were written.
+fn read_back(file: &[u8], heights: &[i32], held: Held) {
+    let taken = read(file, 15, 3);
+    say(b"file read back: ");
+    say_counts(taken);
+    if same_back(taken, 3, heights, held) {
+        say(b", the same heights and records\n");
+    } else {
+        say(b", other heights or records\n");
+    }
+}
+
+fn say_counts(taken: Taken) {
+    let answer = taken.answer;
+    match answer {
+        ReadBack::Run {
+            rows,
+            columns,
+            peaks,
+        } => say_three(rows, columns, peaks),
+        ReadBack::Refused(_) => say(b"refused"),
+    }
+}
+
+fn say_three(rows: u32, columns: u32, peaks: u32) {
+    say(b"rows ");
+    say_count(rows as u64);
+    say(b" columns ");
+    say_count(columns as u64);
+    say(b" peaks ");
+    say_count(peaks as u64);
+}
+
+// Reads into a row of heights with a cell too little, and into a row of records with an entry too little.
+fn read_refused(file: &[u8]) {
+    let cells = read(file, 14, 3);
+    show_told(b"file read into 14 cells", b", needs ", cells.told);
+    let entries = read(file, 15, 2);
+    show_told(
+        b"file read into a row of two entries",
+        b", needs ",
+        entries.told,
+    );
+}
+
+// Prints a refusal, what it also returns, and whether all is as it was.
+fn show_told(name: &[u8], also: &[u8], told: Told) {
+    say(name);
+    say(b": gets ");
+    say_count(told.refusal as u64);
+    say(also);
+    say_count(told.number as u64);
+    say_kept(told.kept);
+}
+
+fn say_kept(kept: bool) {
+    if kept {
+        say(b", nothing written\n");
+    } else {
+        say(b", something written\n");
+    }
+}
