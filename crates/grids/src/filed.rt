@@ -1,6 +1,5 @@
 // The run file of the paper's three-row grid at T = 1: written, read back, and refused.
 use crate::files::BYTES;
-use crate::files::Filed;
 use crate::files::Held;
 use crate::files::Taken;
 use crate::files::Told;
@@ -11,6 +10,7 @@ use crate::files::write;
 use crate::same::same_back;
 use crate::text::say;
 use crate::text::say_count;
+use crate::text::say_named;
 use layout::ReadBack;
 use record::Peak;
 
@@ -18,22 +18,26 @@ use record::Peak;
 pub fn run() {
     let heights = [1, 9, 1, 1, 2, 1, 1, 5, 1, 1, 4, 1, 1, 7, 1];
     let held = list_of(3, &heights, 1);
-    let filed = write(3, &heights, held, 132);
-    written(filed);
-    write_refused(&heights, held);
+    file_of(&heights, held);
+    short_room(&heights, held);
+    unsound_record(&heights, held);
+}
+
+// Writes the file and reads it.
+fn file_of(heights: &[i32], held: Held) {
+    let filed = write(3, heights, held, 132);
     let file = filed.file;
-    read_back(front(&file, 132), &heights, held);
-    read_refused(front(&file, 132));
+    written(filed.told, &file);
+    read_back(front(&file, 132), heights, held);
+    read_short(front(&file, 132));
 }
 
 // Prints how many bytes the file has, and the numbers of its header.
-fn written(filed: Filed) {
-    let told = filed.told;
-    let file = filed.file;
+fn written(told: Told, file: &[u8; BYTES]) {
     say(b"file of the three-row grid: ");
     say_count(told.number as u64);
     say(b" bytes, header");
-    say_header(&file);
+    say_header(file);
 }
 
 // Writes the six numbers of a header and ends the line.
@@ -65,15 +69,19 @@ fn wide(byte: u8) -> u64 {
     byte as u64
 }
 
-// Writes into a room with a byte too little, and writes a record whose height is not that of its cell.
-fn write_refused(heights: &[i32], held: Held) {
-    let short = write(3, heights, held, 131);
-    show_told(b"file into a room of 131 bytes", b", needs ", short.told);
-    let wrong = write(3, heights, forged(held), 132);
+// Writes into a room with a byte too little.
+fn short_room(heights: &[i32], held: Held) {
+    let filed = write(3, heights, held, 131);
+    show_told(b"file into a room of 131 bytes", b", needs ", filed.told);
+}
+
+// Writes a record whose height is not that of its cell.
+fn unsound_record(heights: &[i32], held: Held) {
+    let filed = write(3, heights, forged(held), 132);
     show_told(
         b"file with another height in record 1",
         b", record ",
-        wrong.told,
+        filed.told,
     );
 }
 
@@ -111,33 +119,36 @@ fn say_counts(taken: Taken) {
 }
 
 fn say_three(rows: u32, columns: u32, peaks: u32) {
-    say(b"rows ");
-    say_count(rows as u64);
-    say(b" columns ");
-    say_count(columns as u64);
-    say(b" peaks ");
-    say_count(peaks as u64);
+    say_named(b"rows ", rows as u64);
+    say_named(b" columns ", columns as u64);
+    say_named(b" peaks ", peaks as u64);
 }
 
 // Reads into a row of heights with a cell too little, and into a row of records with an entry too little.
-fn read_refused(file: &[u8]) {
-    let cells = read(file, 14, 3);
-    show_told(b"file read into 14 cells", b", needs ", cells.told);
-    let entries = read(file, 15, 2);
+fn read_short(file: &[u8]) {
+    short_cells(file);
+    short_row(file);
+}
+
+fn short_cells(file: &[u8]) {
+    let taken = read(file, 14, 3);
+    show_told(b"file read into 14 cells", b", needs ", taken.told);
+}
+
+fn short_row(file: &[u8]) {
+    let taken = read(file, 15, 2);
     show_told(
         b"file read into a row of two entries",
         b", needs ",
-        entries.told,
+        taken.told,
     );
 }
 
 // Prints a refusal, what it also returns, and whether all is as it was.
 fn show_told(name: &[u8], also: &[u8], told: Told) {
     say(name);
-    say(b": gets ");
-    say_count(told.refusal as u64);
-    say(also);
-    say_count(told.number as u64);
+    say_named(b": gets ", told.refusal as u64);
+    say_named(also, told.number as u64);
     say_kept(told.kept);
 }
 

@@ -2,7 +2,8 @@
 use crate::first;
 use crate::first::Told;
 use crate::text::say;
-use crate::text::say_count;
+use crate::text::say_named;
+use crate::text::say_number;
 use run::Run;
 
 // Asks them all.
@@ -23,13 +24,17 @@ fn list_short() {
 // "At 5 from the column call, the cells just behind the taken ones hold the offered column."
 fn column_short() {
     let mut grid = [9, 2, 5, 4, 77, 77];
-    let mut work = [0u8; 80];
-    let mut out = [0i64; 256];
     say(b"column, 1 behind 9 2 5 4 into a row of none");
-    let step = first::column(taken(1, 4), &[1], &mut grid, &mut work, 0, &mut out);
-    say_told(step.told);
+    offer(&mut grid);
     say(b"column, the two cells behind 9 2 5 4 after it: ");
     say_cells(&grid);
+}
+
+fn offer(grid: &mut [i32; 6]) {
+    let mut work = [0u8; 80];
+    let mut out = [0i64; 256];
+    let step = first::column(taken(1, 4), &[1], grid, &mut work, 0, &mut out);
+    say_told(step.told);
 }
 
 fn end_short() {
@@ -53,10 +58,8 @@ fn taken(rows: u32, columns: u32) -> Run {
 
 // Writes what a refused call tells, and ends the line.
 fn say_told(told: Told) {
-    say(b": gets ");
-    say_count(told.refusal as u64);
-    say(b", needs ");
-    say_count(told.count as u64);
+    say_named(b": gets ", told.refusal as u64);
+    say_named(b", needs ", told.count as u64);
     say_row(told.kept);
 }
 
@@ -77,5 +80,5 @@ fn say_cells(grid: &[i32; 6]) {
 }
 
 fn say_cell(height: i32) {
-    crate::text::say_number(second::prominence(height, 0));
+    say_number(second::prominence(height, 0));
 }
