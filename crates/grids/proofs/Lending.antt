@@ -22,7 +22,7 @@ use base.Logic.{ent, sep, ex, guard, via, exI, guardI}
 use base.Fml.{GName, Fml, ftrue, fsep, fex, fat, flft, fdead, flent}
 use prog.Wp.{Heap, Env, Calls, Loops}
 use ghost.Atoms.{Atoms, sem}
-use types.Kit.{Given, Item, ‵, raw, _⊛_, some, given, later, mean, ⋆, Post, Goal, Seq, Step, runs, lands, _$_, _∵_, !, qed, by}
+use types.Kit.{Given, Item, ‵, raw, _⊛_, some, given, later, mean, ⋆, Post, Goal, Seq, Step, runs, lands, step, _$_, _∵_, !, qed, by}
 use types.Kit.{move, drop, group, use1, use2, use3, split, join, pick, learn, rewrite, fsplit, fjoin, fpick, fpack}
 use types.Kit.{frame, feqL, feqI, await, updating, now as at-once, show, check, done}
 use types.Run.{Opds}
@@ -39,11 +39,14 @@ use denote.Lend.{Held, lends-slice, slice-back, lends-shr-slice}
 use denote.Memory.{cellAt, mem, shares, partAt, partOf}
 use denote.Ref.{RefT}
 use denote.Slice.{sliceVal, MutSlice, ShrSlice, Room, finally}
-use denote.Steps.{owned, facts}
+use denote.Steps.{owned, facts, nothing}
 use denote.Struct.Field.{array-field}
 use denote.Struct.Laws as LL
 use denote.Triple.Statement.{Contract, Triple}
 use denote.Triple.Call.{calls-at}
+use denote.Triple.Walked.{Stay, stay-dropped}
+use denote.Exit.{yes as kept}
+use denote.Signature.{AllWithin, plain, shrSliceOf}
 use borrow.Struct.Items.{is-same}
 use borrow.Table.Elements.{at, cut-app, join-app, same-len, length-take-le}
 use Rattle.record.specs.declared.Peak.{Peak}
@@ -99,6 +102,18 @@ spends {𝓤 = 𝓤} {H = H} {A = A} {W = W} k L w zs l = use1 W (Spent L w)
     (via 𝓤 (mean 𝓤 H A (given (length zs ≡ length (w .now)) (‵ (finally L (w .name) zs))))
     (guardI 𝓤 (length zs ≡ length (w .now)) (sem 𝓤 H A (finally L (w .name) zs)) l)
     (exI 𝓤 (λ (y : List (L .Denot)). mean 𝓤 H A (given (length y ≡ length (w .now)) (‵ (finally L (w .name) y)))) zs))
+
+-- a parameter that is plain data, or a `&` slice at the lifetime j, is given up as well: nothing is had of it at the end
+abbrev pub drops : {n : ℕ} (L : RattleType) → Stay {n = n} (plain (λ _. L)) kept
+drops L = stay-dropped (plain (λ _. L)) kept
+
+abbrev pub drops-slice : {n : ℕ} (j : ℕ) (ok : AllWithin n (j ∷ [])) (L : RattleType)
+    → Stay {n = n} (shrSliceOf (j ∷ []) ok (plain (λ _. L))) kept
+drops-slice j ok L = stay-dropped (shrSliceOf (j ∷ []) ok (plain (λ _. L))) kept
+
+pub none : {M : Type 1} {𝓤 : URA M} {H : Heap 𝓤} {A : Atoms 𝓤} {K : Type 0} {W : Given 𝓤 H A} {Γ : List (Item 𝓤)}
+    {G : Goal 𝓤 H} {P : Fml} → K → Step K W (‵ (fsep ftrue P) ∷ Γ) G (‵ P ∷ Γ) G
+none k = step (λ s. nothing k $ fjoin k $ s)
 
 -- ---- the array is its entries, cut behind the first k
 

@@ -1,7 +1,6 @@
--- `lend::list` is safe and ends: a walk of its MIR, by hand, after `proofs/list` of the crate `list`. The array is copied into a local, whose first
--- entries are lent to `list::list` and come back (`calls-lent`). The heights are
--- copied, and the work area is given up. Of what `list::list` promises nothing
--- is used. Assumes nothing.
+-- `lend::list` is safe and ends: a walk of its MIR, by hand, after `proofs/list` of the crate `list`. The array is
+-- copied into a local, whose first entries are lent to `list::list` and come back (`calls-lent`). The heights and the
+-- work area are given to it for good. Of what `list::list` promises nothing is used. Assumes nothing.
 use mathlib.Core.Path.{refl}
 use mathlib.Core.List.{List, [], _∷_}
 use Prim.Native.Nat.{ℕ, _≤_, _<_, _^_}
@@ -20,8 +19,9 @@ use ghost.Atoms.{Atoms}
 use contract.Lifetimes.{Lfts}
 use contract.Monad.{Fun}
 use contract.Running.{givenOf, tables, tablesOf}
-use types.Kit.{Given, Item, ‵, raw, _⊛_, some, later, mean, ⋆, _$_, _∵_, !, qed, by, move, keep, drop, group, use1, split}
-use types.Kit.{join, pick, learn, fsplit, fjoin, fpack, feqL, suffices, frame, await, updating, now as at-once, show, done}
+use types.Kit.{Given, Item, ‵, raw, _⊛_, some, later, mean, ⋆, _$_, _∵_, !, qed, by, move, keep, drop, group, split}
+use types.Kit.{join, pick, learn, fsplit, fjoin, fpack, feqL, suffices, frame, await, updating, now as at-once, show}
+use types.Kit.{done}
 use types.Run.{look, init, stop, hop, fld, from, load, addr, of-opd, and-then, no-more, assigns, land, returns, enter}
 use types.Run.{alloc1, alloc0, params1, pass1, pass0, free0}
 use types.Part.{agg, whole, sub, look-in}
@@ -31,8 +31,8 @@ use denote.Laws.{Is}
 use denote.Plain.{uint-makes, uint-vals, uint-tells}
 use denote.Builtin.{u8, u32, usize, i32}
 use denote.Ref.{RefT}
-use denote.Signature.{plain}
-use denote.Slice.{sliceVal, MutSlice, ShrSlice, Room, finally, slice-vals, mut-slice-tells, shr-slice-tells, shr-slice-copy}
+use denote.Signature.{plain, shrSliceOf}
+use denote.Slice.{sliceVal, MutSlice, ShrSlice, Room, finally, slice-vals, mut-slice-tells, shr-slice-tells}
 use denote.Steps.{owned, nothing}
 use denote.Enum.Laws as EL
 use denote.Struct.Laws as LL
@@ -41,8 +41,8 @@ use denote.Triple.Clauses.{Lasts, lasts, atExit}
 use denote.Triple.Entry.{onEntry}
 use denote.Triple.Spec.{Meets, tripleOf}
 use denote.Triple.Table.{entered, cited}
-use denote.Triple.Walked.{needs, Stays, stay-none, stay-none-slice, gave-slice, walkOf, goes-none, goes-none-slice}
-use denote.Triple.Walked.{goes-gave-slice, Walks, ends-at, walked, walk-meets}
+use denote.Triple.Walked.{needs, Stays, gave-slice, walkOf, goes-dropped, goes-gave-slice, Walks}
+use denote.Triple.Walked.{ends-at, walked, walk-meets}
 use denote.Exit.{yes as kept}
 use Rattle.record.specs.declared.Peak.{Peak}
 use Rattle.record.specs.declared.Handed.{Handed}
@@ -56,15 +56,19 @@ use Rattle.list.proofs.list.Met as called-thm
 use Rattle.grids.specs.declared.lend.Listed.{Listed}
 use Rattle.grids.proofs.lend.Listed as L
 use Rattle.grids.proofs.lend.Listed.Laws as L′
-use Rattle.grids.proofs.Lending.{R, Entries, Spent, row-vals, row-tells, row-makes, row-typed, row-field}
+use Rattle.grids.proofs.Lending.{R, Entries, Spent, row-vals, row-tells, row-typed, row-field}
 use Rattle.grids.proofs.Lending.{rowAt, RowMut, KeptMut, lends-mut, back-mut, calls-lent, spends}
+use Rattle.grids.proofs.Lending.{drops, drops-slice, none}
 use Rattle.grids.proofs.lend.list.Key.{name as #lend·list}
 use Rattle.grids.proofs.lend.list as lend
 use Rattle.grids.proofs.lend.list.Statement as stated
 use Rattle.grids.proofs.lend.list.Code as code
 
 abbrev stayed : Stays (lend.ended .signature .params) (lend.ended .kept)
-stayed = (stay-none (λ _. u32) kept, (stay-none-slice (0 ∷ []) tt (plain (λ _. i32)) kept, (stay-none (λ _. u32) kept, (gave-slice (1 ∷ []) tt (plain (λ _. u8)), (stay-none (λ _. Entries) kept, (stay-none (λ _. usize) kept, tt))))))
+stayed = (
+  drops u32,
+  (drops-slice 0 tt i32, (drops u32, (gave-slice (1 ∷ []) tt (plain (λ _. u8)), (drops Entries, (drops usize, tt))))),
+)
 
 -- the locals behind the one that holds the array, and those before it, once it has been taken out
 abbrev hi : ℕ → ℕ → ℕ
@@ -131,7 +135,16 @@ module _ {M : Type 1} (𝓤 : URA M) (H : Heap 𝓤) (A : Atoms 𝓤) (W : Given
     args δ = (rows, (h, (threshold, (w, (rowAt b room xs δ, tt)))))
 
     abbrev to-call : ℕ → GName → Called 𝓤 H A mem run .Ghost
-    to-call ν δ = ((lfts ν, (q₀, (q₁, (fullShare, tt))), tt, args δ, (vint w32 rows ∷ [], (hv ∷ [], (vint w32 threshold ∷ [], (wv ∷ [], (sliceVal (b, 0) room ∷ [], tt)))))), tt)
+    to-call ν δ = (
+      (
+        lfts ν,
+        (q₀, (q₁, (fullShare, tt))),
+        tt,
+        args δ,
+        (vint w32 rows ∷ [], (hv ∷ [], (vint w32 threshold ∷ [], (wv ∷ [], (sliceVal (b, 0) room ∷ [], tt))))),
+      ),
+      tt,
+    )
 
     abbrev Returned : ℕ → GName → Val → Handed → Item 𝓤
     Returned ν δ u r =
@@ -165,17 +178,16 @@ module _ {M : Type 1} (𝓤 : URA M) (H : Heap 𝓤) (A : Atoms 𝓤) (W : Given
 
   -- ---- the end
   exits : (r : Handed) (u : Val) → Is S.the-row r (u ∷ []) → (ys : List Peak) (z : Val) → Is Entries ys (z ∷ [])
-      → ent 𝓤 (⋆ 𝓤 H A (After ∷ ‵ Hts ∷ [])) (Post (vstruct (vcons u (vcons z vnil))))
+      → ent 𝓤 (⋆ 𝓤 H A (After ∷ [])) (Post (vstruct (vcons u (vcons z vnil))))
   exits r u is ys z ys-is =
-      qed W (After ∷ ‵ Hts ∷ []) ∵
+      qed W (After ∷ []) ∵
       split ! $ move ! (1 ∷ []) $ split ! $ move ! (1 ∷ []) $ pick ! (λ z₁. learn ! (λ l₁.
-      suffices ! _ (ends-at 𝓤 H A lend.ended stayed (lend.clauses 𝓤 H A mem run) W bound _ (returned r ys) (tt, (tt, (tt, (z₁, (tt, (tt, tt)))))) (tt, (tt, (tt, (l₁, (tt, (tt, tt))))))) $
-      nothing ! $ move ! (2 ∷ []) $ join ! $ move ! (2 ∷ []) $ join ! $ nothing ! $
-      owned ! usize (Is usize) (uint-makes 𝓤 H A W w64) room _ (refl, room-fits) $ fjoin ! $
-      owned ! Entries (Is Entries) (row-makes 𝓤 H A W) xs _ xs-is $ fjoin ! $ move ! (2 ∷ []) $ fjoin ! $
-      owned ! u32 (Is u32) (uint-makes 𝓤 H A W w32) threshold _ (refl, threshold-fits) $ fjoin ! $ move ! (2 ∷ []) $
-      fjoin ! $ owned ! u32 (Is u32) (uint-makes 𝓤 H A W w32) rows _ (refl, rows-fits) $ fjoin ! $
-      owned ! L.the-row (Is L.the-row) (LL.makes L.the-type L′.the-plain 𝓤 H A) (returned r ys) _ (returned-is r u is ys z ys-is) $
+      suffices ! _ (ends-at 𝓤 H A lend.ended stayed (lend.clauses 𝓤 H A mem run) W bound _
+      (returned r ys) (tt, (tt, (tt, (z₁, (tt, (tt, tt)))))) (tt, (tt, (tt, (l₁, (tt, (tt, tt))))))) $
+      nothing ! $ move ! (2 ∷ []) $ join ! $ move ! (2 ∷ []) $ join ! $ nothing ! $ none ! $ none ! $ move ! (2 ∷ []) $
+      fjoin ! $ none ! $ none ! $ none ! $
+      owned ! L.the-row (Is L.the-row) (LL.makes L.the-type L′.the-plain 𝓤 H A)
+      (returned r ys) _ (returned-is r u is ys z ys-is) $
       move ! (1 ∷ []) $ join ! $ move ! (1 ∷ []) $ join ! $ frame ! $ done !))
 
   module _ (C : Calls 𝓤 H) (Λ : Loops 𝓤 H) (fm : FmC 𝓤 H (W .laws) C)
@@ -184,12 +196,13 @@ module _ {M : Type 1} (𝓤 : URA M) (H : Heap 𝓤) (A : Atoms 𝓤) (W : Given
         (WpFn 𝓤 H C Λ code.function (vint w32 rows ∷ hv ∷ vint w32 threshold ∷ wv ∷ v ∷ vint w64 room ∷ []) Post)
     walk =
         qed W ((‵ (flft κ₀ q₀) ⊛ ‵ (flft κ₁ q₁) ⊛ ‵ ftrue)
-        ∷ ‵ (owns (u32 ∷ ShrSlice (named 0) κ₀ i32 ∷ u32 ∷ MutSlice (named 1) κ₁ u8 ∷ Entries ∷ usize ∷ []) a vals) ∷ []) ∵
+        ∷ ‵ (owns (u32 ∷ ShrSlice (named 0) κ₀ i32 ∷ u32 ∷ MutSlice (named 1) κ₁ u8 ∷ Entries ∷ usize ∷ []) a vals)
+        ∷ []) ∵
         enter ! C Λ code.function (vint w32 rows ∷ hv ∷ vint w32 threshold ∷ wv ∷ v ∷ vint w64 room ∷ []) _ $
-        alloc1 ! (λ l₀. alloc1 ! (λ l₁. alloc1 ! (λ l₂. alloc1 ! (λ l₃. alloc1 ! (λ l₄. alloc1 ! (λ l₅. alloc1 ! (λ
-        l₆. alloc1 ! (λ l₇. alloc1 ! (λ l₈. alloc1 ! (λ l₉. alloc1 ! (λ l₁₀. alloc1 ! (λ l₁₁. alloc1 ! (λ l₁₂. alloc1
-        ! (λ l₁₃. alloc0 ! $
-        params1 ! $ pass1 ! (init ! (hi 0 1) refl (tt, record { fits = rows-fits })) $
+        alloc1 ! (λ l₀. alloc1 ! (λ l₁. alloc1 ! (λ l₂. alloc1 ! (λ l₃. alloc1 ! (λ l₄. alloc1 ! (λ l₅. alloc1 ! (λ l₆.
+        alloc1 ! (λ l₇. alloc1 ! (λ l₈. alloc1 ! (λ l₉. alloc1 ! (λ l₁₀. alloc1 ! (λ l₁₁. alloc1 ! (λ l₁₂.
+        alloc1 ! (λ l₁₃. alloc0 ! $ params1 ! $
+        pass1 ! (init ! (hi 0 1) refl (tt, record { fits = rows-fits })) $
         pass1 ! (init ! (hi 0 2) refl (tt, (tt, (record { fits = h-room .0 }, tt)))) $
         pass1 ! (init ! (hi 0 3) refl (tt, record { fits = threshold-fits })) $
         pass1 ! (init ! (hi 0 4) refl (tt, (tt, (record { fits = w-room .0 }, tt)))) $
@@ -201,43 +214,37 @@ module _ {M : Type 1} (𝓤 : URA M) (H : Heap 𝓤) (A : Atoms 𝓤) (W : Given
         -- [work; heights; _13; …; _0; …; the tokens]
         move ! (30 ∷ []) $ split ! $ move ! (1 ∷ []) $ split ! $ move ! (1 ∷ []) $ drop ! $
         -- [token 1; token 0; work; heights; _13; …; _0; …]
-        assigns ! (of-opd ! (copied ! (hi 4 5) refl)) (from ! (stop !)) (init ! (hi 4 7) refl (row-typed 𝓤 H A W xs v
-        xs-is)) $
-        assigns ! (addr ! (from ! (fld ! refl (hop ! (look-in ! (hi 4 4) (sub ! 0 refl (whole !))) (stop !))))) (from
-        ! (stop !)) (init ! (hi 4 9) refl (tt, tt)) $
+        assigns ! (of-opd ! (copied ! (hi 4 5) refl)) (from ! (stop !))
+        (init ! (hi 4 7) refl (row-typed 𝓤 H A W xs v xs-is)) $
+        assigns ! (addr ! (from ! (fld ! refl (hop ! (look-in ! (hi 4 4) (sub ! 0 refl (whole !))) (stop !)))))
+        (from ! (stop !)) (init ! (hi 4 9) refl (tt, tt)) $
         assigns ! (agg ! (and-then ! (copied ! (hi 4 9) refl) (and-then ! (load ! (from ! (fld ! refl (stop !)))
-        (look-in ! (hi 4 4) (sub ! 1 refl (whole !)))) (no-more !)))) (from ! (stop !)) (init ! (hi 4 10) refl (
-          tt,
-          (tt, (record { fits = w-room .0 }, tt)),
-        )) $
+        (look-in ! (hi 4 4) (sub ! 1 refl (whole !)))) (no-more !)))) (from ! (stop !))
+        (init ! (hi 4 10) refl (tt, (tt, (record { fits = w-room .0 }, tt)))) $
         assigns ! (addr ! (from ! (stop !))) (from ! (stop !)) (init ! (hi 4 11) refl (tt, tt)) $
         assigns ! (agg ! (and-then ! (copied ! (hi 4 11) refl) (and-then ! (copied ! (hi 4 6) refl) (no-more !))))
         (from ! (stop !)) (init ! (hi 4 12) refl (tt, (tt, (record { fits = room-fits }, tt)))) $
-        move ! (3 ∷ []) $ use1 W (‵ Hts ⊛ ‵ Hts) (shr-slice-copy 𝓤 H A W (named 0) κ₀ i32 .twice h (hv ∷ [])) $
-        split ! $ move ! (3 ∷ 2 ∷ 0 ∷ 4 ∷ []) $ group ! 4 $
-        -- [what is lent; heights; _13; …]: the array comes to the front, and what frees it behind the heights
-        move ! (hi 2 7 ∷ 0 ∷ 1 ∷ hi 3 7 ∷ []) $
-        calls-lent ! fm (Called 𝓤 H A mem run) known (to-call l₇) Before After S.the-row l₇ v (RowMut l₇ room xs
-        (named 2))
-        (KeptMut l₇ room xs) (λ δ. fex (List Peak) (finally R δ)) (lends-mut l₇ room xs 𝓤 H A W (named 2) v xs-is few)
-        (back-mut l₇ room xs 𝓤 H A W (xs-is .1 .0 .1)) (goes l₇) (gives l₇)
-        (λ ν δ. and-then ! (copied ! (lo 4 1) refl) (and-then ! (copied ! (lo 4 2) refl) (and-then ! (copied ! (lo 4
-        3) refl) (and-then ! (copied ! (hi 4 10) refl) (and-then ! (copied ! (hi 4 12) refl) (no-more !)))))) (λ r u
-        is ys z ys-is.
-        land ! (from ! (stop !)) (init ! (hi 4 8) refl (EL.lawful S.the-type S′.the-laws 𝓤 H A W tt .typed r _ is .0))
-        $
-        -- [what came back; the array; heights; what frees the array; _13; …]
-        assigns ! (of-opd ! (copied ! 1 refl)) (from ! (stop !)) (init ! (hi 4 13) refl (row-typed 𝓤 H A W ys z
-        ys-is)) $
-        assigns ! (agg ! (and-then ! (copied ! (hi 4 8) refl) (and-then ! (copied ! (hi 4 13) refl) (no-more !))))
-        (from ! (stop !)) (init ! (lo 4 0) refl (LL.lawful L.the-type L′.the-laws 𝓤 H A W .typed (returned r ys) _
-        (returned-is r u is ys z ys-is) .0)) $
-        returns ! (look ! (lo 4 0) refl) $ move ! (0 ∷ 2 ∷ 1 ∷ 3 ∷ []) $ release ! (lo 4 0) refl refl $
-        release ! (lo 4 1) refl refl $ release ! (lo 4 2) refl refl $ release ! (lo 4 3) refl refl $
-        release ! (lo 4 4) refl refl $ release ! (lo 4 5) refl refl $ release ! (lo 4 6) refl refl $
-        release ! 2 refl refl $ release ! (hi 2 8) refl refl $ release ! (hi 2 9) refl refl $
-        release ! (hi 2 10) refl refl $ release ! (hi 2 11) refl refl $ release ! (hi 2 12) refl refl $
-        release ! (hi 2 13) refl refl $ free0 ! $ by ! (exits r u is ys z ys-is))))))))))))))))
+        move ! (1 ∷ 0 ∷ 3 ∷ []) $ group ! 4 $
+        -- [what is lent; _13; …; _0; …]: the array comes to the front, and behind it what frees it
+        move ! (hi 1 7 ∷ 0 ∷ hi 2 7 ∷ []) $
+        calls-lent ! fm (Called 𝓤 H A mem run) known (to-call l₇) Before After
+        S.the-row l₇ v (RowMut l₇ room xs (named 2)) (KeptMut l₇ room xs) (λ δ. fex (List Peak) (finally R δ))
+        (lends-mut l₇ room xs 𝓤 H A W (named 2) v xs-is few) (back-mut l₇ room xs 𝓤 H A W (xs-is .1 .0 .1))
+        (goes l₇) (gives l₇) (λ ν δ. and-then ! (copied ! (lo 3 1) refl) (and-then ! (copied ! (lo 3 2) refl)
+        (and-then ! (copied ! (lo 3 3) refl) (and-then ! (copied ! (hi 3 10) refl)
+        (and-then ! (copied ! (hi 3 12) refl) (no-more !)))))) (λ r u is ys z ys-is.
+        land ! (from ! (stop !)) (init ! (hi 3 8) refl (EL.lawful S.the-type S′.the-laws 𝓤 H A W tt .typed r _ is .0)) $
+        -- [what came back; the array; what frees it; _13; …]
+        assigns ! (of-opd ! (copied ! 1 refl)) (from ! (stop !))
+        (init ! (hi 3 13) refl (row-typed 𝓤 H A W ys z ys-is)) $
+        assigns ! (agg ! (and-then ! (copied ! (hi 3 8) refl) (and-then ! (copied ! (hi 3 13) refl) (no-more !))))
+        (from ! (stop !)) (init ! (lo 3 0) refl (LL.lawful L.the-type L′.the-laws 𝓤 H A W .typed (returned r ys) _
+        (returned-is r u is ys z ys-is) .0)) $ returns ! (look ! (lo 3 0) refl) $ release ! (lo 3 0) refl refl $
+        release ! (lo 3 1) refl refl $ release ! (lo 3 2) refl refl $ release ! (lo 3 3) refl refl $
+        release ! (lo 3 4) refl refl $ release ! (lo 3 5) refl refl $ release ! (lo 3 6) refl refl $
+        release ! 1 refl refl $ release ! (hi 1 8) refl refl $ release ! (hi 1 9) refl refl $
+        release ! (hi 1 10) refl refl $ release ! (hi 1 11) refl refl $ release ! (hi 1 12) refl refl $
+        release ! (hi 1 13) refl refl $ free0 ! $ by ! (exits r u is ys z ys-is))))))))))))))))
 
 module _ {M : Type 1} (𝓤 : URA M) (H : Heap 𝓤) (A : Atoms 𝓤) (W : Given 𝓤 H A) (mem : Memory → SProp 𝓤)
     (run : Routine → Fun 𝓤) (𝓣 : Tables 𝓤 H) (known : Triple 𝓤 (𝓣 .C #list·list) (Called 𝓤 H A mem run)) where
@@ -245,7 +252,13 @@ module _ {M : Type 1} (𝓤 : URA M) (H : Heap 𝓤) (A : Atoms 𝓤) (W : Given
   list-walks =
       walked 𝓤 H A lend.ended stayed (lend.clauses 𝓤 H A mem run) (WpFn 𝓤 H (𝓣 .C) (𝓣 .Λ) code.function)
       (λ κs. (uint-vals w32, (slice-vals, (uint-vals w32, (slice-vals, (row-vals, (uint-vals w64, tt)))))))
-      (λ κs. (uint-tells w32, (shr-slice-tells (named 0) (κs .0) i32, (uint-tells w32, (mut-slice-tells (named 1) (κs .1 .0) u8, (row-tells, (uint-tells w64, tt)))))))
+      (λ κs. (
+        uint-tells w32,
+        (
+          shr-slice-tells (named 0) (κs .0) i32,
+          (uint-tells w32, (mut-slice-tells (named 1) (κs .1 .0) u8, (row-tells, (uint-tells w64, tt)))),
+        ),
+      ))
       (λ κs qs bounds a g are. needs 𝓤 (a .1 .1 .1 .1 .1 .0 ≤ 64) _ (λ few.
       walk 𝓤 H A W mem run (κs .0) (κs .1 .0) (qs .0) (qs .1 .0) (a .0) (a .1 .1 .0) (a .1 .1 .1 .1 .1 .0) (a .1 .0)
       (a .1 .1 .1 .0) (a .1 .1 .1 .1 .0) _ (are .0 .1) (are .1 .1 .0 .1) (are .1 .1 .1 .1 .1 .0 .1) (are .1 .0 .0 .1)
@@ -253,7 +266,22 @@ module _ {M : Type 1} (𝓤 : URA M) (H : Heap 𝓤) (A : Atoms 𝓤) (W : Given
 
   list-meets : Meets 𝓤 H A lend.signature (WpFn 𝓤 H (𝓣 .C) (𝓣 .Λ) code.function) (lend.spec 𝓤 H A mem run)
   list-meets =
-      walk-meets 𝓤 H A lend.ended stayed W (goes-none 𝓤 H A W 2 (λ _. u32) kept (λ κs x f. refl), (goes-none-slice 𝓤 H A W 2 (0 ∷ []) tt (plain (λ _. i32)) kept, (goes-none 𝓤 H A W 2 (λ _. u32) kept (λ κs x f. refl), (goes-gave-slice 𝓤 H A W 2 1 tt (plain (λ _. u8)), (goes-none 𝓤 H A W 2 (λ _. Entries) kept (λ κs x f. refl), (goes-none 𝓤 H A W 2 (λ _. usize) kept (λ κs x f. refl), tt))))))
+      walk-meets 𝓤 H A lend.ended stayed W (
+        goes-dropped 𝓤 H A W 2 (plain (λ _. u32)) kept (λ κs x f. refl),
+        (
+          goes-dropped 𝓤 H A W 2 (shrSliceOf (0 ∷ []) tt (plain (λ _. i32))) kept (λ κs x f. refl),
+          (
+            goes-dropped 𝓤 H A W 2 (plain (λ _. u32)) kept (λ κs x f. refl),
+            (
+              goes-gave-slice 𝓤 H A W 2 1 tt (plain (λ _. u8)),
+              (
+                goes-dropped 𝓤 H A W 2 (plain (λ _. Entries)) kept (λ κs x f. refl),
+                (goes-dropped 𝓤 H A W 2 (plain (λ _. usize)) kept (λ κs x f. refl), tt),
+              ),
+            ),
+          ),
+        ),
+      )
       (lend.clauses 𝓤 H A mem run) (WpFn 𝓤 H (𝓣 .C) (𝓣 .Λ) code.function)
       (WpFn-mono 𝓤 H (W .laws) 𝓣 code.function) list-walks
 

@@ -1,7 +1,5 @@
--- `lend::read` is safe and ends: a walk of its MIR, by hand, after `proofs/lend/list`. The array is copied into a local, whose first
--- entries are lent to `runfile::read` and come back (`calls-lent`). The file is copied, and the heights are
--- given up. Of what `runfile::read` promises nothing
--- is used. Assumes nothing.
+-- `lend::read` is safe and ends: a walk of its MIR, by hand, after `proofs/lend/list`. What is given to `runfile::read`
+-- for good is the file and the row of heights. Assumes nothing.
 use mathlib.Core.Path.{refl}
 use mathlib.Core.List.{List, [], _∷_}
 use Prim.Native.Nat.{ℕ, _≤_, _<_, _^_}
@@ -20,8 +18,9 @@ use ghost.Atoms.{Atoms}
 use contract.Lifetimes.{Lfts}
 use contract.Monad.{Fun}
 use contract.Running.{givenOf, tables, tablesOf}
-use types.Kit.{Given, Item, ‵, raw, _⊛_, some, later, mean, ⋆, _$_, _∵_, !, qed, by, move, keep, drop, group, use1, split}
-use types.Kit.{join, pick, learn, fsplit, fjoin, fpack, feqL, suffices, frame, await, updating, now as at-once, show, done}
+use types.Kit.{Given, Item, ‵, raw, _⊛_, some, later, mean, ⋆, _$_, _∵_, !, qed, by, move, keep, drop, group, split}
+use types.Kit.{join, pick, learn, fsplit, fjoin, fpack, feqL, suffices, frame, await, updating, now as at-once, show}
+use types.Kit.{done}
 use types.Run.{look, init, stop, hop, fld, from, load, addr, of-opd, and-then, no-more, assigns, land, returns, enter}
 use types.Run.{alloc1, alloc0, params1, pass1, pass0, free0}
 use types.Part.{agg, whole, sub, look-in}
@@ -31,8 +30,8 @@ use denote.Laws.{Is}
 use denote.Plain.{uint-makes, uint-vals, uint-tells}
 use denote.Builtin.{u8, usize, i32}
 use denote.Ref.{RefT}
-use denote.Signature.{plain}
-use denote.Slice.{sliceVal, MutSlice, ShrSlice, Room, finally, slice-vals, mut-slice-tells, shr-slice-tells, shr-slice-copy}
+use denote.Signature.{plain, shrSliceOf}
+use denote.Slice.{sliceVal, MutSlice, ShrSlice, Room, finally, slice-vals, mut-slice-tells, shr-slice-tells}
 use denote.Steps.{owned, nothing}
 use denote.Enum.Laws as EL
 use denote.Struct.Laws as LL
@@ -41,8 +40,8 @@ use denote.Triple.Clauses.{Lasts, lasts, atExit}
 use denote.Triple.Entry.{onEntry}
 use denote.Triple.Spec.{Meets, tripleOf}
 use denote.Triple.Table.{entered, cited}
-use denote.Triple.Walked.{needs, Stays, stay-none, stay-none-slice, gave-slice, walkOf, goes-none, goes-none-slice}
-use denote.Triple.Walked.{goes-gave-slice, Walks, ends-at, walked, walk-meets}
+use denote.Triple.Walked.{needs, Stays, gave-slice, walkOf, goes-dropped, goes-gave-slice, Walks}
+use denote.Triple.Walked.{ends-at, walked, walk-meets}
 use denote.Exit.{yes as kept}
 use Rattle.record.specs.declared.Peak.{Peak}
 use Rattle.layout.specs.declared.ReadBack.{ReadBack}
@@ -56,15 +55,16 @@ use Rattle.runfile.proofs.read.Met as called-thm
 use Rattle.grids.specs.declared.lend.Back.{Back}
 use Rattle.grids.proofs.lend.Back as L
 use Rattle.grids.proofs.lend.Back.Laws as L′
-use Rattle.grids.proofs.Lending.{R, Entries, Spent, row-vals, row-tells, row-makes, row-typed, row-field}
+use Rattle.grids.proofs.Lending.{R, Entries, Spent, row-vals, row-tells, row-typed, row-field}
 use Rattle.grids.proofs.Lending.{rowAt, RowMut, KeptMut, lends-mut, back-mut, calls-lent, spends}
+use Rattle.grids.proofs.Lending.{drops, drops-slice, none}
 use Rattle.grids.proofs.lend.read.Key.{name as #lend·read}
 use Rattle.grids.proofs.lend.read as lend
 use Rattle.grids.proofs.lend.read.Statement as stated
 use Rattle.grids.proofs.lend.read.Code as code
 
 abbrev stayed : Stays (lend.ended .signature .params) (lend.ended .kept)
-stayed = (stay-none-slice (0 ∷ []) tt (plain (λ _. u8)) kept, (gave-slice (1 ∷ []) tt (plain (λ _. i32)), (stay-none (λ _. Entries) kept, (stay-none (λ _. usize) kept, tt))))
+stayed = (drops-slice 0 tt u8, (gave-slice (1 ∷ []) tt (plain (λ _. i32)), (drops Entries, (drops usize, tt))))
 
 -- the locals behind the one that holds the array, and those before it, once it has been taken out
 abbrev hi : ℕ → ℕ → ℕ
@@ -130,7 +130,16 @@ module _ {M : Type 1} (𝓤 : URA M) (H : Heap 𝓤) (A : Atoms 𝓤) (W : Given
     args δ = (f, (h, (rowAt b room xs δ, tt)))
 
     abbrev to-call : ℕ → GName → Called 𝓤 H A mem run .Ghost
-    to-call ν δ = ((lfts ν, (q₀, (q₁, (fullShare, tt))), tt, args δ, (fv ∷ [], (hv ∷ [], (sliceVal (b, 0) room ∷ [], tt)))), tt)
+    to-call ν δ = (
+      (
+        lfts ν,
+        (q₀, (q₁, (fullShare, tt))),
+        tt,
+        args δ,
+        (fv ∷ [], (hv ∷ [], (sliceVal (b, 0) room ∷ [], tt))),
+      ),
+      tt,
+    )
 
     abbrev Returned : ℕ → GName → Val → ReadBack → Item 𝓤
     Returned ν δ u r =
@@ -161,16 +170,16 @@ module _ {M : Type 1} (𝓤 : URA M) (H : Heap 𝓤) (A : Atoms 𝓤) (W : Given
 
   -- ---- the end
   exits : (r : ReadBack) (u : Val) → Is S.the-row r (u ∷ []) → (ys : List Peak) (z : Val) → Is Entries ys (z ∷ [])
-      → ent 𝓤 (⋆ 𝓤 H A (After ∷ ‵ File ∷ [])) (Post (vstruct (vcons u (vcons z vnil))))
+      → ent 𝓤 (⋆ 𝓤 H A (After ∷ [])) (Post (vstruct (vcons u (vcons z vnil))))
   exits r u is ys z ys-is =
-      qed W (After ∷ ‵ File ∷ []) ∵
+      qed W (After ∷ []) ∵
       split ! $ move ! (1 ∷ []) $ split ! $ move ! (1 ∷ []) $ pick ! (λ z₁. learn ! (λ l₁.
-      suffices ! _ (ends-at 𝓤 H A lend.ended stayed (lend.clauses 𝓤 H A mem run) W bound _ (returned r ys) (tt, (z₁, (tt, (tt, tt)))) (tt, (l₁, (tt, (tt, tt))))) $
-      nothing ! $ move ! (2 ∷ []) $ join ! $ move ! (2 ∷ []) $ join ! $ nothing ! $
-      owned ! usize (Is usize) (uint-makes 𝓤 H A W w64) room _ (refl, room-fits) $ fjoin ! $
-      owned ! Entries (Is Entries) (row-makes 𝓤 H A W) xs _ xs-is $ fjoin ! $ move ! (2 ∷ []) $ fjoin ! $
-      move ! (2 ∷ []) $ fjoin ! $
-      owned ! L.the-row (Is L.the-row) (LL.makes L.the-type L′.the-plain 𝓤 H A) (returned r ys) _ (returned-is r u is ys z ys-is) $
+      suffices ! _ (ends-at 𝓤 H A lend.ended stayed (lend.clauses 𝓤 H A mem run) W bound _
+      (returned r ys) (tt, (z₁, (tt, (tt, tt)))) (tt, (l₁, (tt, (tt, tt))))) $
+      nothing ! $ move ! (2 ∷ []) $ join ! $ move ! (2 ∷ []) $ join ! $ nothing ! $ none ! $ none ! $ move ! (2 ∷ []) $
+      fjoin ! $ none ! $
+      owned ! L.the-row (Is L.the-row) (LL.makes L.the-type L′.the-plain 𝓤 H A)
+      (returned r ys) _ (returned-is r u is ys z ys-is) $
       move ! (1 ∷ []) $ join ! $ move ! (1 ∷ []) $ join ! $ frame ! $ done !))
 
   module _ (C : Calls 𝓤 H) (Λ : Loops 𝓤 H) (fm : FmC 𝓤 H (W .laws) C)
@@ -181,9 +190,9 @@ module _ {M : Type 1} (𝓤 : URA M) (H : Heap 𝓤) (A : Atoms 𝓤) (W : Given
         qed W ((‵ (flft κ₀ q₀) ⊛ ‵ (flft κ₁ q₁) ⊛ ‵ ftrue)
         ∷ ‵ (owns (ShrSlice (named 0) κ₀ u8 ∷ MutSlice (named 1) κ₁ i32 ∷ Entries ∷ usize ∷ []) a vals) ∷ []) ∵
         enter ! C Λ code.function (fv ∷ hv ∷ v ∷ vint w64 room ∷ []) _ $
-        alloc1 ! (λ l₀. alloc1 ! (λ l₁. alloc1 ! (λ l₂. alloc1 ! (λ l₃. alloc1 ! (λ l₄. alloc1 ! (λ l₅. alloc1 ! (λ
-        l₆. alloc1 ! (λ l₇. alloc1 ! (λ l₈. alloc1 ! (λ l₉. alloc1 ! (λ l₁₀. alloc1 ! (λ l₁₁. alloc0 ! $
-        params1 ! $ pass1 ! (init ! (hi 0 1) refl (tt, (tt, (record { fits = f-room .0 }, tt)))) $
+        alloc1 ! (λ l₀. alloc1 ! (λ l₁. alloc1 ! (λ l₂. alloc1 ! (λ l₃. alloc1 ! (λ l₄. alloc1 ! (λ l₅. alloc1 ! (λ l₆.
+        alloc1 ! (λ l₇. alloc1 ! (λ l₈. alloc1 ! (λ l₉. alloc1 ! (λ l₁₀. alloc1 ! (λ l₁₁. alloc0 ! $ params1 ! $
+        pass1 ! (init ! (hi 0 1) refl (tt, (tt, (record { fits = f-room .0 }, tt)))) $
         pass1 ! (init ! (hi 0 2) refl (tt, (tt, (record { fits = h-room .0 }, tt)))) $
         pass1 ! (init ! (hi 0 3) refl (row-typed 𝓤 H A W xs v xs-is)) $
         pass1 ! (init ! (hi 0 4) refl (tt, record { fits = room-fits })) $ pass0 ! $
@@ -192,41 +201,35 @@ module _ {M : Type 1} (𝓤 : URA M) (H : Heap 𝓤) (A : Atoms 𝓤) (W : Given
         -- [the heights; the file; _11; …; _0; …; the tokens]
         move ! (26 ∷ []) $ split ! $ move ! (1 ∷ []) $ split ! $ move ! (1 ∷ []) $ drop ! $
         -- [token 1; token 0; the heights; the file; _11; …; _0; …]
-        assigns ! (of-opd ! (copied ! (hi 4 3) refl)) (from ! (stop !)) (init ! (hi 4 5) refl (row-typed 𝓤 H A W xs v
-        xs-is)) $
-        assigns ! (addr ! (from ! (fld ! refl (hop ! (look-in ! (hi 4 2) (sub ! 0 refl (whole !))) (stop !))))) (from
-        ! (stop !)) (init ! (hi 4 7) refl (tt, tt)) $
+        assigns ! (of-opd ! (copied ! (hi 4 3) refl)) (from ! (stop !))
+        (init ! (hi 4 5) refl (row-typed 𝓤 H A W xs v xs-is)) $
+        assigns ! (addr ! (from ! (fld ! refl (hop ! (look-in ! (hi 4 2) (sub ! 0 refl (whole !))) (stop !)))))
+        (from ! (stop !)) (init ! (hi 4 7) refl (tt, tt)) $
         assigns ! (agg ! (and-then ! (copied ! (hi 4 7) refl) (and-then ! (load ! (from ! (fld ! refl (stop !)))
-        (look-in ! (hi 4 2) (sub ! 1 refl (whole !)))) (no-more !)))) (from ! (stop !)) (init ! (hi 4 8) refl (
-          tt,
-          (tt, (record { fits = h-room .0 }, tt)),
-        )) $
+        (look-in ! (hi 4 2) (sub ! 1 refl (whole !)))) (no-more !)))) (from ! (stop !))
+        (init ! (hi 4 8) refl (tt, (tt, (record { fits = h-room .0 }, tt)))) $
         assigns ! (addr ! (from ! (stop !))) (from ! (stop !)) (init ! (hi 4 9) refl (tt, tt)) $
         assigns ! (agg ! (and-then ! (copied ! (hi 4 9) refl) (and-then ! (copied ! (hi 4 4) refl) (no-more !))))
         (from ! (stop !)) (init ! (hi 4 10) refl (tt, (tt, (record { fits = room-fits }, tt)))) $
-        move ! (3 ∷ []) $ use1 W (‵ File ⊛ ‵ File) (shr-slice-copy 𝓤 H A W (named 0) κ₀ u8 .twice f (fv ∷ [])) $
-        split ! $ move ! (3 ∷ 2 ∷ 0 ∷ 4 ∷ []) $ group ! 4 $
-        -- [what is lent; the file; _11; …]: the array comes to the front, and what frees it behind the the file
-        move ! (hi 2 5 ∷ 0 ∷ 1 ∷ hi 3 5 ∷ []) $
-        calls-lent ! fm (Called 𝓤 H A mem run) known (to-call l₅) Before After S.the-row l₅ v (RowMut l₅ room xs
-        (named 2))
-        (KeptMut l₅ room xs) (λ δ. fex (List Peak) (finally R δ)) (lends-mut l₅ room xs 𝓤 H A W (named 2) v xs-is few)
-        (back-mut l₅ room xs 𝓤 H A W (xs-is .1 .0 .1)) (goes l₅) (gives l₅)
-        (λ ν δ. and-then ! (copied ! (lo 4 1) refl) (and-then ! (copied ! (hi 4 8) refl) (and-then ! (copied ! (hi 4
-        10) refl) (no-more !)))) (λ r u is ys z ys-is.
-        land ! (from ! (stop !)) (init ! (hi 4 6) refl (EL.lawful S.the-type S′.the-laws 𝓤 H A W tt .typed r _ is .0))
-        $
-        -- [what came back; the array; the file; what frees the array; _11; …]
-        assigns ! (of-opd ! (copied ! 1 refl)) (from ! (stop !)) (init ! (hi 4 11) refl (row-typed 𝓤 H A W ys z
-        ys-is)) $
-        assigns ! (agg ! (and-then ! (copied ! (hi 4 6) refl) (and-then ! (copied ! (hi 4 11) refl) (no-more !))))
-        (from ! (stop !)) (init ! (lo 4 0) refl (LL.lawful L.the-type L′.the-laws 𝓤 H A W .typed (returned r ys) _
-        (returned-is r u is ys z ys-is) .0)) $
-        returns ! (look ! (lo 4 0) refl) $ move ! (0 ∷ 2 ∷ 1 ∷ 3 ∷ []) $ release ! (lo 4 0) refl refl $
-        release ! (lo 4 1) refl refl $ release ! (lo 4 2) refl refl $ release ! (lo 4 3) refl refl $
-        release ! (lo 4 4) refl refl $ release ! 2 refl refl $ release ! (hi 2 6) refl refl $
-        release ! (hi 2 7) refl refl $ release ! (hi 2 8) refl refl $ release ! (hi 2 9) refl refl $
-        release ! (hi 2 10) refl refl $ release ! (hi 2 11) refl refl $ free0 ! $
+        move ! (1 ∷ 0 ∷ 3 ∷ []) $ group ! 4 $
+        -- [what is lent; _11; …; _0; …]: the array comes to the front, and behind it what frees it
+        move ! (hi 1 5 ∷ 0 ∷ hi 2 5 ∷ []) $
+        calls-lent ! fm (Called 𝓤 H A mem run) known (to-call l₅) Before After
+        S.the-row l₅ v (RowMut l₅ room xs (named 2)) (KeptMut l₅ room xs) (λ δ. fex (List Peak) (finally R δ))
+        (lends-mut l₅ room xs 𝓤 H A W (named 2) v xs-is few) (back-mut l₅ room xs 𝓤 H A W (xs-is .1 .0 .1))
+        (goes l₅) (gives l₅) (λ ν δ. and-then ! (copied ! (lo 3 1) refl) (and-then ! (copied ! (hi 3 8) refl)
+        (and-then ! (copied ! (hi 3 10) refl) (no-more !)))) (λ r u is ys z ys-is.
+        land ! (from ! (stop !)) (init ! (hi 3 6) refl (EL.lawful S.the-type S′.the-laws 𝓤 H A W tt .typed r _ is .0)) $
+        -- [what came back; the array; what frees it; _11; …]
+        assigns ! (of-opd ! (copied ! 1 refl)) (from ! (stop !))
+        (init ! (hi 3 11) refl (row-typed 𝓤 H A W ys z ys-is)) $
+        assigns ! (agg ! (and-then ! (copied ! (hi 3 6) refl) (and-then ! (copied ! (hi 3 11) refl) (no-more !))))
+        (from ! (stop !)) (init ! (lo 3 0) refl (LL.lawful L.the-type L′.the-laws 𝓤 H A W .typed (returned r ys) _
+        (returned-is r u is ys z ys-is) .0)) $ returns ! (look ! (lo 3 0) refl) $ release ! (lo 3 0) refl refl $
+        release ! (lo 3 1) refl refl $ release ! (lo 3 2) refl refl $ release ! (lo 3 3) refl refl $
+        release ! (lo 3 4) refl refl $ release ! 1 refl refl $ release ! (hi 1 6) refl refl $
+        release ! (hi 1 7) refl refl $ release ! (hi 1 8) refl refl $ release ! (hi 1 9) refl refl $
+        release ! (hi 1 10) refl refl $ release ! (hi 1 11) refl refl $ free0 ! $
         by ! (exits r u is ys z ys-is))))))))))))))
 
 module _ {M : Type 1} (𝓤 : URA M) (H : Heap 𝓤) (A : Atoms 𝓤) (W : Given 𝓤 H A) (mem : Memory → SProp 𝓤)
@@ -235,7 +238,10 @@ module _ {M : Type 1} (𝓤 : URA M) (H : Heap 𝓤) (A : Atoms 𝓤) (W : Given
   read-walks =
       walked 𝓤 H A lend.ended stayed (lend.clauses 𝓤 H A mem run) (WpFn 𝓤 H (𝓣 .C) (𝓣 .Λ) code.function)
       (λ κs. (slice-vals, (slice-vals, (row-vals, (uint-vals w64, tt)))))
-      (λ κs. (shr-slice-tells (named 0) (κs .0) u8, (mut-slice-tells (named 1) (κs .1 .0) i32, (row-tells, (uint-tells w64, tt)))))
+      (λ κs. (
+        shr-slice-tells (named 0) (κs .0) u8,
+        (mut-slice-tells (named 1) (κs .1 .0) i32, (row-tells, (uint-tells w64, tt))),
+      ))
       (λ κs qs bounds a g are. needs 𝓤 (a .1 .1 .1 .0 ≤ 64) _ (λ few.
       walk 𝓤 H A W mem run (κs .0) (κs .1 .0) (qs .0) (qs .1 .0) (a .1 .1 .1 .0) (a .0) (a .1 .0) (a .1 .1 .0) _
       (are .1 .1 .1 .0 .1) (are .0 .0 .1) (are .1 .0 .0 .1) (are .1 .1 .0) few (𝓣 .C) (𝓣 .Λ) (fmOf 𝓤 H (W .laws) 𝓣)
@@ -243,7 +249,16 @@ module _ {M : Type 1} (𝓤 : URA M) (H : Heap 𝓤) (A : Atoms 𝓤) (W : Given
 
   read-meets : Meets 𝓤 H A lend.signature (WpFn 𝓤 H (𝓣 .C) (𝓣 .Λ) code.function) (lend.spec 𝓤 H A mem run)
   read-meets =
-      walk-meets 𝓤 H A lend.ended stayed W (goes-none-slice 𝓤 H A W 2 (0 ∷ []) tt (plain (λ _. u8)) kept, (goes-gave-slice 𝓤 H A W 2 1 tt (plain (λ _. i32)), (goes-none 𝓤 H A W 2 (λ _. Entries) kept (λ κs x f. refl), (goes-none 𝓤 H A W 2 (λ _. usize) kept (λ κs x f. refl), tt))))
+      walk-meets 𝓤 H A lend.ended stayed W (
+        goes-dropped 𝓤 H A W 2 (shrSliceOf (0 ∷ []) tt (plain (λ _. u8))) kept (λ κs x f. refl),
+        (
+          goes-gave-slice 𝓤 H A W 2 1 tt (plain (λ _. i32)),
+          (
+            goes-dropped 𝓤 H A W 2 (plain (λ _. Entries)) kept (λ κs x f. refl),
+            (goes-dropped 𝓤 H A W 2 (plain (λ _. usize)) kept (λ κs x f. refl), tt),
+          ),
+        ),
+      )
       (lend.clauses 𝓤 H A mem run) (WpFn 𝓤 H (𝓣 .C) (𝓣 .Λ) code.function)
       (WpFn-mono 𝓤 H (W .laws) 𝓣 code.function) read-walks
 
@@ -253,5 +268,6 @@ read-spec 𝓤 H 𝓜 𝓖 𝓡 =
     entered 𝓤 H (tripleOf 𝓤 H (𝓖 .A) lend.signature (lend.spec 𝓤 H (𝓖 .A) (𝓜 .mem) (𝓡 .run)))
     (tables 𝓤 H 𝓜 𝓡 code.env .C) (tables 𝓤 H 𝓜 𝓡 code.env .Λ) #lend·read code.function (code.unfolded 𝓤 H 𝓜 𝓡)
     (read-meets 𝓤 H (𝓖 .A) (givenOf 𝓤 H 𝓜 𝓖) (𝓜 .mem) (𝓡 .run) (tablesOf 𝓤 H 𝓜 (tables 𝓤 H 𝓜 𝓡 code.env))
-    (cited 𝓤 H (Called 𝓤 H (𝓖 .A) (𝓜 .mem) (𝓡 .run)) 𝓜 𝓡 code.env #runfile·read called-def.routine code.calls-runfile·read
+    (cited 𝓤 H (Called 𝓤 H (𝓖 .A) (𝓜 .mem) (𝓡 .run)) 𝓜 𝓡 code.env #runfile·read called-def.routine
+    code.calls-runfile·read
     (called-thm.met 𝓤 H 𝓜 𝓖 𝓡)))

@@ -1,7 +1,6 @@
--- `lend::write` is safe and ends: a walk of its MIR, by hand, after `proofs/lend/list`. The array is copied into a local, whose first
--- entries are lent to `runfile::write` and come back (`calls-lent`). The heights are copied, and the room is
--- given up. Of what `runfile::write` promises nothing
--- is used. Assumes nothing.
+-- `lend::write` is safe and ends: a walk of its MIR, by hand, after `proofs/lend/list`. The entries are lent as `&`,
+-- and the array is not returned. What is given to `runfile::write` for good is the heights and the room. Assumes
+-- nothing.
 use mathlib.Core.Path.{refl}
 use mathlib.Core.List.{List, [], _∷_}
 use Prim.Native.Nat.{ℕ, _≤_, _<_, _^_}
@@ -20,7 +19,7 @@ use ghost.Atoms.{Atoms}
 use contract.Lifetimes.{Lfts}
 use contract.Monad.{Fun}
 use contract.Running.{givenOf, tables, tablesOf}
-use types.Kit.{Given, Item, ‵, raw, _⊛_, some, later, mean, ⋆, _$_, _∵_, !, qed, by, move, keep, drop, group, use1, split}
+use types.Kit.{Given, Item, ‵, raw, _⊛_, some, later, mean, ⋆, _$_, _∵_, !, qed, by, move, keep, drop, group, split}
 use types.Kit.{join, pick, learn, fsplit, fjoin, feqL, suffices, frame, await, updating, now as at-once, show, done}
 use types.Run.{look, init, stop, hop, fld, from, load, addr, of-opd, and-then, no-more, assigns, land, returns, enter}
 use types.Run.{alloc1, alloc0, params1, pass1, pass0, free0}
@@ -31,8 +30,8 @@ use denote.Laws.{Is}
 use denote.Plain.{uint-makes, uint-vals, uint-tells}
 use denote.Builtin.{u8, u32, usize, i32}
 use denote.Ref.{RefT}
-use denote.Signature.{plain}
-use denote.Slice.{sliceVal, MutSlice, ShrSlice, Room, slice-vals, mut-slice-tells, shr-slice-tells, shr-slice-copy}
+use denote.Signature.{plain, shrSliceOf}
+use denote.Slice.{sliceVal, MutSlice, ShrSlice, Room, slice-vals, mut-slice-tells, shr-slice-tells}
 use denote.Steps.{owned, nothing}
 use denote.Enum.Laws as EL
 use denote.Triple.Statement.{Contract, Triple}
@@ -40,8 +39,8 @@ use denote.Triple.Clauses.{Lasts, lasts, atExit}
 use denote.Triple.Entry.{onEntry}
 use denote.Triple.Spec.{Meets, tripleOf}
 use denote.Triple.Table.{entered, cited}
-use denote.Triple.Walked.{needs, Stays, stay-none, stay-none-slice, gave-slice, walkOf, goes-none, goes-none-slice}
-use denote.Triple.Walked.{goes-gave-slice, Walks, ends-at, walked, walk-meets}
+use denote.Triple.Walked.{needs, Stays, gave-slice, walkOf, goes-dropped, goes-gave-slice, Walks}
+use denote.Triple.Walked.{ends-at, walked, walk-meets}
 use denote.Exit.{yes as kept}
 use Rattle.record.specs.declared.Peak.{Peak}
 use Rattle.layout.specs.declared.Written.{Written}
@@ -52,15 +51,19 @@ use Rattle.runfile.proofs.write as called
 use Rattle.runfile.proofs.write.Symbol as called-def
 use Rattle.runfile.proofs.write.Symbol.{name as #runfile·write}
 use Rattle.runfile.proofs.write.Met as called-thm
-use Rattle.grids.proofs.Lending.{R, Entries, Spent, row-vals, row-tells, row-makes, row-typed}
+use Rattle.grids.proofs.Lending.{R, Entries, Spent, row-vals, row-tells, row-typed}
 use Rattle.grids.proofs.Lending.{rowAt, RowShr, KeptShr, lends-shr, back-shr, calls-lent, spends}
+use Rattle.grids.proofs.Lending.{drops, drops-slice, none}
 use Rattle.grids.proofs.lend.write.Key.{name as #lend·write}
 use Rattle.grids.proofs.lend.write as lend
 use Rattle.grids.proofs.lend.write.Statement as stated
 use Rattle.grids.proofs.lend.write.Code as code
 
 abbrev stayed : Stays (lend.ended .signature .params) (lend.ended .kept)
-stayed = (stay-none (λ _. u32) kept, (stay-none-slice (0 ∷ []) tt (plain (λ _. i32)) kept, (stay-none (λ _. Entries) kept, (stay-none (λ _. usize) kept, (gave-slice (1 ∷ []) tt (plain (λ _. u8)), tt)))))
+stayed = (
+  drops u32,
+  (drops-slice 0 tt i32, (drops Entries, (drops usize, (gave-slice (1 ∷ []) tt (plain (λ _. u8)), tt)))),
+)
 
 -- the locals behind the one that holds the array, and those before it, once it has been taken out
 abbrev hi : ℕ → ℕ → ℕ
@@ -119,7 +122,16 @@ module _ {M : Type 1} (𝓤 : URA M) (H : Heap 𝓤) (A : Atoms 𝓤) (W : Given
     args δ = (rows, (h, (rowAt b count xs δ, (o, tt))))
 
     abbrev to-call : ℕ → GName → Called 𝓤 H A mem run .Ghost
-    to-call ν δ = ((lfts ν, (q₀, (fullShare, (q₁, tt))), tt, args δ, (vint w32 rows ∷ [], (hv ∷ [], (sliceVal (b, 0) count ∷ [], (ov ∷ [], tt))))), tt)
+    to-call ν δ = (
+      (
+        lfts ν,
+        (q₀, (fullShare, (q₁, tt))),
+        tt,
+        args δ,
+        (vint w32 rows ∷ [], (hv ∷ [], (sliceVal (b, 0) count ∷ [], (ov ∷ [], tt)))),
+      ),
+      tt,
+    )
 
     abbrev Returned : ℕ → GName → Val → Written → Item 𝓤
     Returned ν δ u r =
@@ -151,15 +163,14 @@ module _ {M : Type 1} (𝓤 : URA M) (H : Heap 𝓤) (A : Atoms 𝓤) (W : Given
 
   -- ---- the end
   exits : (r : Written) (u : Val) → Is S.the-row r (u ∷ [])
-      → ent 𝓤 (⋆ 𝓤 H A (After ∷ ‵ Hts ∷ [])) (Post u)
+      → ent 𝓤 (⋆ 𝓤 H A (After ∷ [])) (Post u)
   exits r u is =
-      qed W (After ∷ ‵ Hts ∷ []) ∵
+      qed W (After ∷ []) ∵
       split ! $ move ! (1 ∷ []) $ split ! $ move ! (1 ∷ []) $ pick ! (λ z₁. learn ! (λ l₁.
-      suffices ! _ (ends-at 𝓤 H A lend.ended stayed (lend.clauses 𝓤 H A mem run) W bound _ r (tt, (tt, (tt, (tt, (z₁, tt))))) (tt, (tt, (tt, (tt, (l₁, tt)))))) $
-      nothing ! $ move ! (2 ∷ []) $ join ! $ move ! (2 ∷ []) $ join ! $ nothing ! $ move ! (2 ∷ []) $ fjoin ! $
-      owned ! usize (Is usize) (uint-makes 𝓤 H A W w64) count _ (refl, count-fits) $ fjoin ! $
-      owned ! Entries (Is Entries) (row-makes 𝓤 H A W) xs _ xs-is $ fjoin ! $ move ! (2 ∷ []) $ fjoin ! $
-      owned ! u32 (Is u32) (uint-makes 𝓤 H A W w32) rows _ (refl, rows-fits) $ fjoin ! $
+      suffices ! _ (ends-at 𝓤 H A lend.ended stayed (lend.clauses 𝓤 H A mem run) W bound _
+      r (tt, (tt, (tt, (tt, (z₁, tt))))) (tt, (tt, (tt, (tt, (l₁, tt)))))) $
+      nothing ! $ move ! (2 ∷ []) $ join ! $ move ! (2 ∷ []) $ join ! $ nothing ! $ move ! (2 ∷ []) $ fjoin ! $ none ! $
+      none ! $ none ! $ none ! $
       owned ! S.the-row (Is S.the-row) (EL.makes S.the-type S′.the-plain 𝓤 H A) r _ is $ move ! (1 ∷ []) $ join ! $
       move ! (1 ∷ []) $ join ! $ frame ! $ done !))
 
@@ -171,9 +182,9 @@ module _ {M : Type 1} (𝓤 : URA M) (H : Heap 𝓤) (A : Atoms 𝓤) (W : Given
         qed W ((‵ (flft κ₀ q₀) ⊛ ‵ (flft κ₁ q₁) ⊛ ‵ ftrue)
         ∷ ‵ (owns (u32 ∷ ShrSlice (named 0) κ₀ i32 ∷ Entries ∷ usize ∷ MutSlice (named 1) κ₁ u8 ∷ []) a vals) ∷ []) ∵
         enter ! C Λ code.function (vint w32 rows ∷ hv ∷ v ∷ vint w64 count ∷ ov ∷ []) _ $
-        alloc1 ! (λ l₀. alloc1 ! (λ l₁. alloc1 ! (λ l₂. alloc1 ! (λ l₃. alloc1 ! (λ l₄. alloc1 ! (λ l₅. alloc1 ! (λ
-        l₆. alloc1 ! (λ l₇. alloc1 ! (λ l₈. alloc1 ! (λ l₉. alloc1 ! (λ l₁₀. alloc0 ! $
-        params1 ! $ pass1 ! (init ! (hi 0 1) refl (tt, record { fits = rows-fits })) $
+        alloc1 ! (λ l₀. alloc1 ! (λ l₁. alloc1 ! (λ l₂. alloc1 ! (λ l₃. alloc1 ! (λ l₄. alloc1 ! (λ l₅. alloc1 ! (λ l₆.
+        alloc1 ! (λ l₇. alloc1 ! (λ l₈. alloc1 ! (λ l₉. alloc1 ! (λ l₁₀. alloc0 ! $ params1 ! $
+        pass1 ! (init ! (hi 0 1) refl (tt, record { fits = rows-fits })) $
         pass1 ! (init ! (hi 0 2) refl (tt, (tt, (record { fits = h-room .0 }, tt)))) $
         pass1 ! (init ! (hi 0 3) refl (row-typed 𝓤 H A W xs v xs-is)) $
         pass1 ! (init ! (hi 0 4) refl (tt, record { fits = count-fits })) $
@@ -184,35 +195,29 @@ module _ {M : Type 1} (𝓤 : URA M) (H : Heap 𝓤) (A : Atoms 𝓤) (W : Given
         -- [the room; heights; _10; …; _0; …; the tokens]
         move ! (24 ∷ []) $ split ! $ move ! (1 ∷ []) $ split ! $ move ! (1 ∷ []) $ drop ! $
         -- [token 1; token 0; the room; heights; _10; …; _0; …]
-        assigns ! (of-opd ! (copied ! (hi 4 3) refl)) (from ! (stop !)) (init ! (hi 4 6) refl (row-typed 𝓤 H A W xs v
-        xs-is)) $
+        assigns ! (of-opd ! (copied ! (hi 4 3) refl)) (from ! (stop !))
+        (init ! (hi 4 6) refl (row-typed 𝓤 H A W xs v xs-is)) $
         assigns ! (addr ! (from ! (stop !))) (from ! (stop !)) (init ! (hi 4 7) refl (tt, tt)) $
         assigns ! (agg ! (and-then ! (copied ! (hi 4 7) refl) (and-then ! (copied ! (hi 4 4) refl) (no-more !))))
         (from ! (stop !)) (init ! (hi 4 8) refl (tt, (tt, (record { fits = count-fits }, tt)))) $
-        assigns ! (addr ! (from ! (fld ! refl (hop ! (look-in ! (hi 4 5) (sub ! 0 refl (whole !))) (stop !))))) (from
-        ! (stop !)) (init ! (hi 4 9) refl (tt, tt)) $
+        assigns ! (addr ! (from ! (fld ! refl (hop ! (look-in ! (hi 4 5) (sub ! 0 refl (whole !))) (stop !)))))
+        (from ! (stop !)) (init ! (hi 4 9) refl (tt, tt)) $
         assigns ! (agg ! (and-then ! (copied ! (hi 4 9) refl) (and-then ! (load ! (from ! (fld ! refl (stop !)))
-        (look-in ! (hi 4 5) (sub ! 1 refl (whole !)))) (no-more !)))) (from ! (stop !)) (init ! (hi 4 10) refl (
-          tt,
-          (tt, (record { fits = o-room .0 }, tt)),
-        )) $
-        move ! (3 ∷ []) $ use1 W (‵ Hts ⊛ ‵ Hts) (shr-slice-copy 𝓤 H A W (named 0) κ₀ i32 .twice h (hv ∷ [])) $
-        split ! $ move ! (3 ∷ 2 ∷ 0 ∷ 4 ∷ []) $ group ! 4 $
-        -- [what is lent; heights; _10; …]: the array comes to the front, and what frees it behind the heights
-        move ! (hi 2 6 ∷ 0 ∷ 1 ∷ hi 3 6 ∷ []) $
-        calls-lent ! fm (Called 𝓤 H A mem run) known (to-call l₆) Before After S.the-row l₆ v (RowShr l₆ count xs
-        (named 1))
-        (KeptShr l₆ count xs) (λ δ. ftrue) (lends-shr l₆ count xs 𝓤 H A W (named 1) v xs-is few)
-        (back-shr l₆ count xs 𝓤 H A W (xs-is .1 .0 .1)) (goes l₆) (gives l₆)
-        (λ ν δ. and-then ! (copied ! (lo 4 1) refl) (and-then ! (copied ! (lo 4 2) refl) (and-then ! (copied ! (hi 4
-        8) refl) (and-then ! (copied ! (hi 4 10) refl) (no-more !))))) (λ r u is ys z ys-is.
-        land ! (from ! (stop !)) (init ! (lo 4 0) refl (EL.lawful S.the-type S′.the-laws 𝓤 H A W tt .typed r _ is .0))
-        $
-        returns ! (look ! (lo 4 0) refl) $ move ! (0 ∷ 2 ∷ 1 ∷ 3 ∷ []) $ release ! (lo 4 0) refl refl $
-        release ! (lo 4 1) refl refl $ release ! (lo 4 2) refl refl $ release ! (lo 4 3) refl refl $
-        release ! (lo 4 4) refl refl $ release ! (lo 4 5) refl refl $ release ! 2 refl refl $
-        release ! (hi 2 7) refl refl $ release ! (hi 2 8) refl refl $ release ! (hi 2 9) refl refl $
-        release ! (hi 2 10) refl refl $ free0 ! $ by ! (exits r u is)))))))))))))
+        (look-in ! (hi 4 5) (sub ! 1 refl (whole !)))) (no-more !)))) (from ! (stop !))
+        (init ! (hi 4 10) refl (tt, (tt, (record { fits = o-room .0 }, tt)))) $ move ! (1 ∷ 0 ∷ 3 ∷ []) $ group ! 4 $
+        -- [what is lent; _10; …; _0; …]: the array comes to the front, and behind it what frees it
+        move ! (hi 1 6 ∷ 0 ∷ hi 2 6 ∷ []) $
+        calls-lent ! fm (Called 𝓤 H A mem run) known (to-call l₆) Before After
+        S.the-row l₆ v (RowShr l₆ count xs (named 1)) (KeptShr l₆ count xs) (λ δ. ftrue)
+        (lends-shr l₆ count xs 𝓤 H A W (named 1) v xs-is few) (back-shr l₆ count xs 𝓤 H A W (xs-is .1 .0 .1))
+        (goes l₆) (gives l₆) (λ ν δ. and-then ! (copied ! (lo 3 1) refl) (and-then ! (copied ! (lo 3 2) refl)
+        (and-then ! (copied ! (hi 3 8) refl) (and-then ! (copied ! (hi 3 10) refl) (no-more !))))) (λ r u is ys z ys-is.
+        land ! (from ! (stop !)) (init ! (lo 3 0) refl (EL.lawful S.the-type S′.the-laws 𝓤 H A W tt .typed r _ is .0)) $
+        returns ! (look ! (lo 3 0) refl) $ release ! (lo 3 0) refl refl $ release ! (lo 3 1) refl refl $
+        release ! (lo 3 2) refl refl $ release ! (lo 3 3) refl refl $ release ! (lo 3 4) refl refl $
+        release ! (lo 3 5) refl refl $ release ! 1 refl refl $ release ! (hi 1 7) refl refl $
+        release ! (hi 1 8) refl refl $ release ! (hi 1 9) refl refl $ release ! (hi 1 10) refl refl $ free0 ! $
+        by ! (exits r u is)))))))))))))
 
 module _ {M : Type 1} (𝓤 : URA M) (H : Heap 𝓤) (A : Atoms 𝓤) (W : Given 𝓤 H A) (mem : Memory → SProp 𝓤)
     (run : Routine → Fun 𝓤) (𝓣 : Tables 𝓤 H) (known : Triple 𝓤 (𝓣 .C #runfile·write) (Called 𝓤 H A mem run)) where
@@ -220,7 +225,13 @@ module _ {M : Type 1} (𝓤 : URA M) (H : Heap 𝓤) (A : Atoms 𝓤) (W : Given
   write-walks =
       walked 𝓤 H A lend.ended stayed (lend.clauses 𝓤 H A mem run) (WpFn 𝓤 H (𝓣 .C) (𝓣 .Λ) code.function)
       (λ κs. (uint-vals w32, (slice-vals, (row-vals, (uint-vals w64, (slice-vals, tt))))))
-      (λ κs. (uint-tells w32, (shr-slice-tells (named 0) (κs .0) i32, (row-tells, (uint-tells w64, (mut-slice-tells (named 1) (κs .1 .0) u8, tt))))))
+      (λ κs. (
+        uint-tells w32,
+        (
+          shr-slice-tells (named 0) (κs .0) i32,
+          (row-tells, (uint-tells w64, (mut-slice-tells (named 1) (κs .1 .0) u8, tt))),
+        ),
+      ))
       (λ κs qs bounds a g are. needs 𝓤 (a .1 .1 .1 .0 ≤ 64) _ (λ few.
       walk 𝓤 H A W mem run (κs .0) (κs .1 .0) (qs .0) (qs .1 .0) (a .0) (a .1 .1 .1 .0) (a .1 .0) (a .1 .1 .1 .1 .0)
       (a .1 .1 .0) _ (are .0 .1) (are .1 .1 .1 .0 .1) (are .1 .0 .0 .1) (are .1 .1 .1 .1 .0 .0 .1) (are .1 .1 .0) few
@@ -228,7 +239,19 @@ module _ {M : Type 1} (𝓤 : URA M) (H : Heap 𝓤) (A : Atoms 𝓤) (W : Given
 
   write-meets : Meets 𝓤 H A lend.signature (WpFn 𝓤 H (𝓣 .C) (𝓣 .Λ) code.function) (lend.spec 𝓤 H A mem run)
   write-meets =
-      walk-meets 𝓤 H A lend.ended stayed W (goes-none 𝓤 H A W 2 (λ _. u32) kept (λ κs x f. refl), (goes-none-slice 𝓤 H A W 2 (0 ∷ []) tt (plain (λ _. i32)) kept, (goes-none 𝓤 H A W 2 (λ _. Entries) kept (λ κs x f. refl), (goes-none 𝓤 H A W 2 (λ _. usize) kept (λ κs x f. refl), (goes-gave-slice 𝓤 H A W 2 1 tt (plain (λ _. u8)), tt)))))
+      walk-meets 𝓤 H A lend.ended stayed W (
+        goes-dropped 𝓤 H A W 2 (plain (λ _. u32)) kept (λ κs x f. refl),
+        (
+          goes-dropped 𝓤 H A W 2 (shrSliceOf (0 ∷ []) tt (plain (λ _. i32))) kept (λ κs x f. refl),
+          (
+            goes-dropped 𝓤 H A W 2 (plain (λ _. Entries)) kept (λ κs x f. refl),
+            (
+              goes-dropped 𝓤 H A W 2 (plain (λ _. usize)) kept (λ κs x f. refl),
+              (goes-gave-slice 𝓤 H A W 2 1 tt (plain (λ _. u8)), tt),
+            ),
+          ),
+        ),
+      )
       (lend.clauses 𝓤 H A mem run) (WpFn 𝓤 H (𝓣 .C) (𝓣 .Λ) code.function)
       (WpFn-mono 𝓤 H (W .laws) 𝓣 code.function) write-walks
 
@@ -238,5 +261,6 @@ write-spec 𝓤 H 𝓜 𝓖 𝓡 =
     entered 𝓤 H (tripleOf 𝓤 H (𝓖 .A) lend.signature (lend.spec 𝓤 H (𝓖 .A) (𝓜 .mem) (𝓡 .run)))
     (tables 𝓤 H 𝓜 𝓡 code.env .C) (tables 𝓤 H 𝓜 𝓡 code.env .Λ) #lend·write code.function (code.unfolded 𝓤 H 𝓜 𝓡)
     (write-meets 𝓤 H (𝓖 .A) (givenOf 𝓤 H 𝓜 𝓖) (𝓜 .mem) (𝓡 .run) (tablesOf 𝓤 H 𝓜 (tables 𝓤 H 𝓜 𝓡 code.env))
-    (cited 𝓤 H (Called 𝓤 H (𝓖 .A) (𝓜 .mem) (𝓡 .run)) 𝓜 𝓡 code.env #runfile·write called-def.routine code.calls-runfile·write
+    (cited 𝓤 H (Called 𝓤 H (𝓖 .A) (𝓜 .mem) (𝓡 .run)) 𝓜 𝓡 code.env #runfile·write called-def.routine
+    code.calls-runfile·write
     (called-thm.met 𝓤 H 𝓜 𝓖 𝓡)))
