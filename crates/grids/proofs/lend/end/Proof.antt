@@ -27,11 +27,9 @@ use types.Part.{agg, whole, sub, look-in}
 use sound.WpLaws.{FmC, fmOf, WpFn-mono}
 use denote.RattleType.{owns}
 use denote.Laws.{Is}
-use denote.Plain.{uint-makes, uint-vals, uint-tells}
 use denote.Builtin.{u8, usize, i32}
 use denote.Ref.{RefT}
-use denote.Signature.{plain, shrSliceOf}
-use denote.Slice.{sliceVal, MutSlice, ShrSlice, Room, finally, slice-vals, mut-slice-tells, shr-slice-tells}
+use denote.Slice.{sliceVal, MutSlice, ShrSlice, Room, finally}
 use denote.Steps.{owned, nothing}
 use denote.Struct.Laws as LL
 use denote.Triple.Statement.{Contract, Triple}
@@ -39,9 +37,7 @@ use denote.Triple.Clauses.{Lasts, lasts, atExit}
 use denote.Triple.Entry.{onEntry}
 use denote.Triple.Spec.{Meets, tripleOf}
 use denote.Triple.Table.{entered, cited}
-use denote.Triple.Walked.{needs, Stays, gave-slice, walkOf, goes-dropped, goes-gave-slice, Walks}
-use denote.Triple.Walked.{ends-at, walked, walk-meets}
-use denote.Exit.{yes as kept}
+use denote.Triple.Walked.{needs, Stays, walkOf, Walks, ends-at, walked, walk-meets}
 use Rattle.record.specs.declared.Peak.{Peak}
 use Rattle.run.specs.declared.Run.{Run}
 use Rattle.run.specs.declared.Step.{Step}
@@ -57,19 +53,23 @@ use Rattle.run.proofs.end.Met as called-thm
 use Rattle.grids.specs.declared.lend.Stepped.{Stepped}
 use Rattle.grids.proofs.lend.Stepped as L
 use Rattle.grids.proofs.lend.Stepped.Laws as L′
-use Rattle.grids.proofs.Lending.{R, Entries, Spent, row-vals, row-tells, row-typed, row-field}
-use Rattle.grids.proofs.Lending.{rowAt, RowMut, KeptMut, lends-mut, back-mut, calls-lent, spends}
-use Rattle.grids.proofs.Lending.{drops, drops-slice, none}
+use Rattle.grids.proofs.Parameters.{Parameter, plainly, number, shared, mutable, stays, spells, tells, goes as goes-all}
+use Rattle.grids.proofs.Parameters.{Spent, spends, none}
+use Rattle.grids.proofs.LentRow.{R, Entries, row, row-typed, row-field, rowAt, RowMut, KeptMut, lends-mut, back-mut, calls-lent}
 use Rattle.grids.proofs.lend.end.Key.{name as #lend·end}
 use Rattle.grids.proofs.lend.end as lend
 use Rattle.grids.proofs.lend.end.Statement as stated
 use Rattle.grids.proofs.lend.end.Code as code
 
+-- a run record by value
+abbrev run : Parameter 2
+run = plainly N.the-row (LL.vals N.the-type N′.the-laws) (LL.tells N.the-type N′.the-laws) (λ x f. refl)
+
+abbrev parameters : List (Parameter 2)
+parameters = run ∷ shared 0 tt i32 ∷ mutable 1 tt u8 ∷ row ∷ number w64 ∷ []
+
 abbrev stayed : Stays (lend.ended .signature .params) (lend.ended .kept)
-stayed = (
-  drops N.the-row,
-  (drops-slice 0 tt i32, (gave-slice (1 ∷ []) tt (plain (λ _. u8)), (drops Entries, (drops usize, tt)))),
-)
+stayed = stays parameters
 
 -- the locals behind the one that holds the array, and those before it, once it has been taken out
 abbrev hi : ℕ → ℕ → ℕ
@@ -251,14 +251,7 @@ module _ {M : Type 1} (𝓤 : URA M) (H : Heap 𝓤) (A : Atoms 𝓤) (W : Given
   end-walks : Walks 𝓤 H A lend.ended stayed (WpFn 𝓤 H (𝓣 .C) (𝓣 .Λ) code.function) (lend.clauses 𝓤 H A mem run)
   end-walks =
       walked 𝓤 H A lend.ended stayed (lend.clauses 𝓤 H A mem run) (WpFn 𝓤 H (𝓣 .C) (𝓣 .Λ) code.function)
-      (λ κs. (LL.vals N.the-type N′.the-laws, (slice-vals, (slice-vals, (row-vals, (uint-vals w64, tt))))))
-      (λ κs. (
-        LL.tells N.the-type N′.the-laws,
-        (
-          shr-slice-tells (named 0) (κs .0) i32,
-          (mut-slice-tells (named 1) (κs .1 .0) u8, (row-tells, (uint-tells w64, tt))),
-        ),
-      ))
+      (spells parameters) (tells parameters)
       (λ κs qs bounds a g are. needs 𝓤 (a .1 .1 .1 .1 .0 ≤ 64) _ (λ few.
       walk 𝓤 H A W mem run (κs .0) (κs .1 .0) (qs .0) (qs .1 .0) (a .0) (a .1 .1 .1 .1 .0) (a .1 .0) (a .1 .1 .0)
       (a .1 .1 .1 .0) _ (are .0) (are .1 .1 .1 .1 .0 .1) (are .1 .0 .0 .1) (are .1 .1 .0 .0 .1) (are .1 .1 .1 .0) few
@@ -266,19 +259,7 @@ module _ {M : Type 1} (𝓤 : URA M) (H : Heap 𝓤) (A : Atoms 𝓤) (W : Given
 
   end-meets : Meets 𝓤 H A lend.signature (WpFn 𝓤 H (𝓣 .C) (𝓣 .Λ) code.function) (lend.spec 𝓤 H A mem run)
   end-meets =
-      walk-meets 𝓤 H A lend.ended stayed W (
-        goes-dropped 𝓤 H A W 2 (plain (λ _. N.the-row)) kept (λ κs x f. refl),
-        (
-          goes-dropped 𝓤 H A W 2 (shrSliceOf (0 ∷ []) tt (plain (λ _. i32))) kept (λ κs x f. refl),
-          (
-            goes-gave-slice 𝓤 H A W 2 1 tt (plain (λ _. u8)),
-            (
-              goes-dropped 𝓤 H A W 2 (plain (λ _. Entries)) kept (λ κs x f. refl),
-              (goes-dropped 𝓤 H A W 2 (plain (λ _. usize)) kept (λ κs x f. refl), tt),
-            ),
-          ),
-        ),
-      )
+      walk-meets 𝓤 H A lend.ended stayed W (goes-all 𝓤 H A W parameters)
       (lend.clauses 𝓤 H A mem run) (WpFn 𝓤 H (𝓣 .C) (𝓣 .Λ) code.function)
       (WpFn-mono 𝓤 H (W .laws) 𝓣 code.function) end-walks
 

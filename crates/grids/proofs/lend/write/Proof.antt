@@ -27,11 +27,10 @@ use types.Part.{agg, whole, sub, look-in}
 use sound.WpLaws.{FmC, fmOf, WpFn-mono}
 use denote.RattleType.{owns}
 use denote.Laws.{Is}
-use denote.Plain.{uint-makes, uint-vals, uint-tells}
+use denote.Plain.{uint-makes}
 use denote.Builtin.{u8, u32, usize, i32}
 use denote.Ref.{RefT}
-use denote.Signature.{plain, shrSliceOf}
-use denote.Slice.{sliceVal, MutSlice, ShrSlice, Room, slice-vals, mut-slice-tells, shr-slice-tells}
+use denote.Slice.{sliceVal, MutSlice, ShrSlice, Room}
 use denote.Steps.{owned, nothing}
 use denote.Enum.Laws as EL
 use denote.Triple.Statement.{Contract, Triple}
@@ -39,9 +38,7 @@ use denote.Triple.Clauses.{Lasts, lasts, atExit}
 use denote.Triple.Entry.{onEntry}
 use denote.Triple.Spec.{Meets, tripleOf}
 use denote.Triple.Table.{entered, cited}
-use denote.Triple.Walked.{needs, Stays, gave-slice, walkOf, goes-dropped, goes-gave-slice, Walks}
-use denote.Triple.Walked.{ends-at, walked, walk-meets}
-use denote.Exit.{yes as kept}
+use denote.Triple.Walked.{needs, Stays, walkOf, Walks, ends-at, walked, walk-meets}
 use Rattle.record.specs.declared.Peak.{Peak}
 use Rattle.layout.specs.declared.Written.{Written}
 use Rattle.layout.proofs.Written as S
@@ -51,19 +48,19 @@ use Rattle.runfile.proofs.write as called
 use Rattle.runfile.proofs.write.Symbol as called-def
 use Rattle.runfile.proofs.write.Symbol.{name as #runfile·write}
 use Rattle.runfile.proofs.write.Met as called-thm
-use Rattle.grids.proofs.Lending.{R, Entries, Spent, row-vals, row-tells, row-typed}
-use Rattle.grids.proofs.Lending.{rowAt, RowShr, KeptShr, lends-shr, back-shr, calls-lent, spends}
-use Rattle.grids.proofs.Lending.{drops, drops-slice, none}
+use Rattle.grids.proofs.Parameters.{Parameter, number, shared, mutable, stays, spells, tells, goes as goes-all}
+use Rattle.grids.proofs.Parameters.{Spent, spends, none}
+use Rattle.grids.proofs.LentRow.{Entries, row, row-typed, rowAt, RowShr, KeptShr, lends-shr, back-shr, calls-lent}
 use Rattle.grids.proofs.lend.write.Key.{name as #lend·write}
 use Rattle.grids.proofs.lend.write as lend
 use Rattle.grids.proofs.lend.write.Statement as stated
 use Rattle.grids.proofs.lend.write.Code as code
 
+abbrev parameters : List (Parameter 2)
+parameters = number w32 ∷ shared 0 tt i32 ∷ row ∷ number w64 ∷ mutable 1 tt u8 ∷ []
+
 abbrev stayed : Stays (lend.ended .signature .params) (lend.ended .kept)
-stayed = (
-  drops u32,
-  (drops-slice 0 tt i32, (drops Entries, (drops usize, (gave-slice (1 ∷ []) tt (plain (λ _. u8)), tt)))),
-)
+stayed = stays parameters
 
 -- the locals behind the one that holds the array, and those before it, once it has been taken out
 abbrev hi : ℕ → ℕ → ℕ
@@ -224,14 +221,7 @@ module _ {M : Type 1} (𝓤 : URA M) (H : Heap 𝓤) (A : Atoms 𝓤) (W : Given
   write-walks : Walks 𝓤 H A lend.ended stayed (WpFn 𝓤 H (𝓣 .C) (𝓣 .Λ) code.function) (lend.clauses 𝓤 H A mem run)
   write-walks =
       walked 𝓤 H A lend.ended stayed (lend.clauses 𝓤 H A mem run) (WpFn 𝓤 H (𝓣 .C) (𝓣 .Λ) code.function)
-      (λ κs. (uint-vals w32, (slice-vals, (row-vals, (uint-vals w64, (slice-vals, tt))))))
-      (λ κs. (
-        uint-tells w32,
-        (
-          shr-slice-tells (named 0) (κs .0) i32,
-          (row-tells, (uint-tells w64, (mut-slice-tells (named 1) (κs .1 .0) u8, tt))),
-        ),
-      ))
+      (spells parameters) (tells parameters)
       (λ κs qs bounds a g are. needs 𝓤 (a .1 .1 .1 .0 ≤ 64) _ (λ few.
       walk 𝓤 H A W mem run (κs .0) (κs .1 .0) (qs .0) (qs .1 .0) (a .0) (a .1 .1 .1 .0) (a .1 .0) (a .1 .1 .1 .1 .0)
       (a .1 .1 .0) _ (are .0 .1) (are .1 .1 .1 .0 .1) (are .1 .0 .0 .1) (are .1 .1 .1 .1 .0 .0 .1) (are .1 .1 .0) few
@@ -239,19 +229,7 @@ module _ {M : Type 1} (𝓤 : URA M) (H : Heap 𝓤) (A : Atoms 𝓤) (W : Given
 
   write-meets : Meets 𝓤 H A lend.signature (WpFn 𝓤 H (𝓣 .C) (𝓣 .Λ) code.function) (lend.spec 𝓤 H A mem run)
   write-meets =
-      walk-meets 𝓤 H A lend.ended stayed W (
-        goes-dropped 𝓤 H A W 2 (plain (λ _. u32)) kept (λ κs x f. refl),
-        (
-          goes-dropped 𝓤 H A W 2 (shrSliceOf (0 ∷ []) tt (plain (λ _. i32))) kept (λ κs x f. refl),
-          (
-            goes-dropped 𝓤 H A W 2 (plain (λ _. Entries)) kept (λ κs x f. refl),
-            (
-              goes-dropped 𝓤 H A W 2 (plain (λ _. usize)) kept (λ κs x f. refl),
-              (goes-gave-slice 𝓤 H A W 2 1 tt (plain (λ _. u8)), tt),
-            ),
-          ),
-        ),
-      )
+      walk-meets 𝓤 H A lend.ended stayed W (goes-all 𝓤 H A W parameters)
       (lend.clauses 𝓤 H A mem run) (WpFn 𝓤 H (𝓣 .C) (𝓣 .Λ) code.function)
       (WpFn-mono 𝓤 H (W .laws) 𝓣 code.function) write-walks
 
