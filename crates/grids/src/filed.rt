@@ -2,12 +2,14 @@
 use crate::files::BYTES;
 use crate::files::Held;
 use crate::files::Taken;
-use crate::files::Told;
 use crate::files::front;
 use crate::files::list_of;
 use crate::files::read;
+use crate::files::read_told;
 use crate::files::write;
+use crate::first::Told;
 use crate::same::same_back;
+use crate::show::show_told;
 use crate::text::say;
 use crate::text::say_count;
 use crate::text::say_named;
@@ -32,41 +34,62 @@ fn file_of(heights: &[i32], held: Held) {
     read_short(front(&file, 132));
 }
 
-// Prints how many bytes the file has, and the numbers of its header.
+// Prints how many bytes the file has, and those of its header.
 fn written(told: Told, file: &[u8; BYTES]) {
-    say(b"file of the three-row grid: ");
-    say_count(told.number as u64);
-    say(b" bytes, header");
+    say_named(b"file of the three-row grid, bytes ", told.count as u64);
+    say(b", header");
     say_header(file);
 }
 
-// Writes the six numbers of a header and ends the line.
+// Writes the 24 bytes of a header and ends the line.
 fn say_header(file: &[u8; BYTES]) {
-    for i in 0..6 {
-        say_number_at(file, 4 * i);
+    for i in 0..24 {
+        say_byte(file[i]);
     }
     say(b"\n");
 }
 
-// Writes a space and the number that begins at a byte.
-fn say_number_at(file: &[u8; BYTES], start: usize) {
+fn say_byte(byte: u8) {
     say(b" ");
-    say_count(number_at(file, start));
+    say_count(byte as u64);
 }
 
-// The unsigned number that begins at a byte, the least byte first.
-fn number_at(file: &[u8; BYTES], start: usize) -> u64 {
-    if start > BYTES - 4 {
-        return 0;
+// Prints the counts that are read, and whether heights and records are those that were written.
+fn read_back(file: &[u8], heights: &[i32], held: Held) {
+    let taken = read(file, 15, 3);
+    say(b"file read back");
+    say_counts(taken);
+    if same_back(taken, 3, heights, held) {
+        say(b", the same heights and records\n");
+    } else {
+        say(b", other heights or records\n");
     }
-    wide(file[start])
-        | (wide(file[start + 1]) << 8)
-        | (wide(file[start + 2]) << 16)
-        | (wide(file[start + 3]) << 24)
 }
 
-fn wide(byte: u8) -> u64 {
-    byte as u64
+fn say_counts(taken: Taken) {
+    let answer = taken.answer;
+    match answer {
+        ReadBack::Run {
+            rows,
+            columns,
+            peaks,
+        } => say_three(rows as u64, columns as u64, peaks as u64),
+        ReadBack::Refused(_) => say(b", refused"),
+    }
+}
+
+fn say_three(rows: u64, columns: u64, peaks: u64) {
+    say_named(b", rows ", rows);
+    say_named(b" columns ", columns);
+    say_named(b" peaks ", peaks);
+}
+
+// Reads into a row of heights with a cell too little, and into a row of records with an entry too little.
+fn read_short(file: &[u8]) {
+    let cells = read_told(read(file, 14, 3));
+    show_told(b"file read into 14 cells", b", needs ", cells);
+    let entries = read_told(read(file, 15, 2));
+    show_told(b"file read into a row of two", b", needs ", entries);
 }
 
 // Writes into a room with a byte too little.
@@ -91,71 +114,5 @@ fn forged(held: Held) -> Held {
     Held {
         row: row,
         count: held.count,
-    }
-}
-
-// Prints the counts that are read, and whether heights and records are those that were written.
-fn read_back(file: &[u8], heights: &[i32], held: Held) {
-    let taken = read(file, 15, 3);
-    say(b"file read back: ");
-    say_counts(taken);
-    if same_back(taken, 3, heights, held) {
-        say(b", the same heights and records\n");
-    } else {
-        say(b", other heights or records\n");
-    }
-}
-
-fn say_counts(taken: Taken) {
-    let answer = taken.answer;
-    match answer {
-        ReadBack::Run {
-            rows,
-            columns,
-            peaks,
-        } => say_three(rows, columns, peaks),
-        ReadBack::Refused(_) => say(b"refused"),
-    }
-}
-
-fn say_three(rows: u32, columns: u32, peaks: u32) {
-    say_named(b"rows ", rows as u64);
-    say_named(b" columns ", columns as u64);
-    say_named(b" peaks ", peaks as u64);
-}
-
-// Reads into a row of heights with a cell too little, and into a row of records with an entry too little.
-fn read_short(file: &[u8]) {
-    short_cells(file);
-    short_row(file);
-}
-
-fn short_cells(file: &[u8]) {
-    let taken = read(file, 14, 3);
-    show_told(b"file read into 14 cells", b", needs ", taken.told);
-}
-
-fn short_row(file: &[u8]) {
-    let taken = read(file, 15, 2);
-    show_told(
-        b"file read into a row of two entries",
-        b", needs ",
-        taken.told,
-    );
-}
-
-// Prints a refusal, what it also returns, and whether all is as it was.
-fn show_told(name: &[u8], also: &[u8], told: Told) {
-    say(name);
-    say_named(b": gets ", told.refusal as u64);
-    say_named(also, told.number as u64);
-    say_kept(told.kept);
-}
-
-fn say_kept(kept: bool) {
-    if kept {
-        say(b", nothing written\n");
-    } else {
-        say(b", something written\n");
     }
 }

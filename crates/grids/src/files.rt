@@ -2,14 +2,18 @@
 //
 // Every byte of a room, every cell of a row of heights and every entry of a row of records holds a mark before a call,
 // so that what the call does not count is seen to stay.
+ghost use Prim.Native.Nat.{_≤_};
+use crate::first::Told;
+use crate::first::told_of;
+use crate::first::within;
 use crate::lend;
 use crate::row::Row;
 use crate::row::kept;
 use crate::row::marked;
+use crate::same::same_heights;
 use layout::ReadBack;
 use layout::Written;
 use record::Handed;
-use record::Refusal;
 
 // As many bytes as a file of 40 cells and 40 records has.
 pub const BYTES: usize = 824;
@@ -23,24 +27,15 @@ pub struct Held {
     pub count: usize,
 }
 
-// What a call on a file tells: the number of its refusal, 0 for none; the bytes written, the records read, or what the
-// refusal also returns; and whether all that it does not count is as it was.
-pub struct Told {
-    pub refusal: u32,
-    pub number: u32,
-    pub kept: bool,
-}
-
-// What writing tells, and the room after it.
+// What writing tells, with the number of bytes, and the room after it.
 pub struct Filed {
     pub told: Told,
     pub file: [u8; BYTES],
 }
 
-// What reading answers and tells, and the heights and the row after it.
+// What reading answers, and the heights and the row after it.
 pub struct Taken {
     pub answer: ReadBack,
-    pub told: Told,
     pub heights: [i32; CELLS],
     pub row: Row,
 }
@@ -68,14 +63,8 @@ fn count_of(handed: Handed) -> usize {
 pub fn write(rows: u32, heights: &[i32], held: Held, bytes: usize) -> Filed {
     let mut file = [7u8; BYTES];
     let row = held.row;
-    let count = held.count;
-    if bytes > BYTES {
-        return unasked(file);
-    }
-    if count > 64 {
-        return unasked(file);
-    }
-    let written = lend::write(rows, heights, row, count, &mut file[0..bytes]);
+    let room = least(bytes, BYTES);
+    let written = lend::write(rows, heights, row, within(held.count), &mut file[0..room]);
     let told = of_written(written, &file);
     Filed {
         told: told,
@@ -83,59 +72,24 @@ pub fn write(rows: u32, heights: &[i32], held: Held, bytes: usize) -> Filed {
     }
 }
 
-// The first bytes of a room.
-pub fn front<'a>(file: &'a [u8; BYTES], bytes: usize) -> &'a [u8] {
-    let all: &'a [u8] = file;
-    if bytes <= all.len() {
-        return &all[0..bytes];
+// The lesser of two numbers.
+fn least(n: usize, most: usize) -> usize
+    ensures { λ r. ⌜ r ≤ most ⌝ }
+{
+    if n > most {
+        return most;
     }
-    all
-}
-
-// The room of a call that was not made. No refusal has the number 99.
-fn unasked(file: [u8; BYTES]) -> Filed {
-    let told = not_made();
-    Filed {
-        told: told,
-        file: file,
-    }
-}
-
-fn not_made() -> Told {
-    Told {
-        refusal: 99,
-        number: 0,
-        kept: false,
-    }
+    n
 }
 
 fn of_written(written: Written, file: &[u8; BYTES]) -> Told {
     match written {
         Written::Bytes(n) => Told {
             refusal: 0,
-            number: n,
+            count: n as usize,
             kept: bytes_kept(file, n as usize),
         },
-        Written::Refused(refusal) => refused(refusal, bytes_kept(file, 0)),
-    }
-}
-
-// What a refusal tells, where all is as it was or not.
-fn refused(refusal: Refusal, kept: bool) -> Told {
-    Told {
-        refusal: record::number(refusal),
-        number: also(refusal),
-        kept: kept,
-    }
-}
-
-// What a refusal also returns.
-fn also(refusal: Refusal) -> u32 {
-    match refusal {
-        Refusal::Table { needed } => needed,
-        Refusal::Unsound { index } => index,
-        Refusal::Room { needed } => needed,
-        _ => 0,
+        Written::Refused(refusal) => told_of(refusal, bytes_kept(file, 0)),
     }
 }
 
@@ -149,41 +103,34 @@ fn bytes_kept(file: &[u8; BYTES], start: usize) -> bool {
     true
 }
 
+// The first bytes of a room.
+pub fn front<'a>(file: &'a [u8; BYTES], bytes: usize) -> &'a [u8] {
+    let all: &'a [u8] = file;
+    if bytes <= all.len() {
+        return &all[0..bytes];
+    }
+    all
+}
+
 // Reads a file into so many cells and a row of so many entries.
-pub fn read(file: &[u8], cells: usize, room: usize) -> Taken {
+pub fn read(file: &[u8], cells: usize, entries: usize) -> Taken {
     let mut heights = [77i32; CELLS];
-    if cells > CELLS {
-        return untaken(heights);
-    }
-    if room > 64 {
-        return untaken(heights);
-    }
-    let back = lend::read(file, &mut heights[0..cells], marked(), room);
+    let room = least(cells, CELLS);
+    let back = lend::read(file, &mut heights[0..room], marked(), within(entries));
     let answer = back.answer;
     let row = back.row;
-    let told = of_read(answer, &heights, row);
     Taken {
         answer: answer,
-        told: told,
         heights: heights,
         row: row,
     }
 }
 
-// What a call leaves that was not made.
-fn untaken(heights: [i32; CELLS]) -> Taken {
-    let told = not_made();
-    let row = marked();
-    Taken {
-        answer: ReadBack::Refused(Refusal::FileLength),
-        told: told,
-        heights: heights,
-        row: row,
-    }
-}
-
-// What reading tells. Which cells and entries an accepted call fills is for `same_back` to look at.
-fn of_read(answer: ReadBack, heights: &[i32; CELLS], row: Row) -> Told {
+// What reading tells, with the number of records. What an accepted call fills is for `same_back` to look at.
+pub fn read_told(taken: Taken) -> Told {
+    let answer = taken.answer;
+    let heights = taken.heights;
+    let row = taken.row;
     match answer {
         ReadBack::Run {
             rows: _,
@@ -191,13 +138,9 @@ fn of_read(answer: ReadBack, heights: &[i32; CELLS], row: Row) -> Told {
             peaks,
         } => Told {
             refusal: 0,
-            number: peaks,
+            count: peaks as usize,
             kept: true,
         },
-        ReadBack::Refused(refusal) => refused(refusal, none_filled(heights) && kept(row, 0)),
+        ReadBack::Refused(refusal) => told_of(refusal, same_heights(&[], &heights) && kept(row, 0)),
     }
-}
-
-fn none_filled(heights: &[i32; CELLS]) -> bool {
-    crate::same::same_heights(&[], heights)
 }

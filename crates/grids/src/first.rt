@@ -10,8 +10,8 @@ use record::Refusal;
 use run::Run;
 use second::Records;
 
-// What a call tells: the number of its refusal, 0 for none, how many records it has, and whether the entries that it
-// does not fill are as they were. At refusal 5 the records are those that are needed.
+// What a call tells: the number of its refusal, 0 for none, how many records it has, and whether all that it does not
+// fill is as it was. At a refusal the number is that which it also returns: at 5 the records that are needed.
 pub struct Told {
     pub refusal: u32,
     pub count: usize,
@@ -59,8 +59,18 @@ pub fn end(run: Run, grid: &[i32], work: &mut [u8], room: usize, out: &mut Recor
     read_off(lend::end(run, grid, work, marked(), within(room)), out)
 }
 
+// A run record at T = 1.
+pub fn taken(rows: u32, columns: u32, ended: bool) -> Run {
+    Run {
+        rows: rows,
+        columns: columns,
+        threshold: 1,
+        ended: ended,
+    }
+}
+
 // A number of entries that a row has.
-fn within(room: usize) -> usize
+pub fn within(room: usize) -> usize
     ensures { λ r. ⌜ r ≤ 64 ⌝ }
 {
     if room > 64 {
@@ -86,7 +96,7 @@ fn read_off(back: lend::Stepped, out: &mut Records) -> Stepped {
 fn answered(handed: Handed, row: Row, out: &mut Records) -> Told {
     match handed {
         Handed::Count(n) => handed_out(n as usize, row, out),
-        Handed::Refused(refusal) => refused(refusal, row),
+        Handed::Refused(refusal) => told_of(refusal, kept(row, 0)),
     }
 }
 
@@ -100,19 +110,21 @@ fn handed_out(count: usize, row: Row, out: &mut Records) -> Told {
     }
 }
 
-// What a refused call tells.
-fn refused(refusal: Refusal, row: Row) -> Told {
+// What a refused call tells, where all is as it was or not.
+pub fn told_of(refusal: Refusal, kept: bool) -> Told {
     Told {
         refusal: record::number(refusal),
-        count: needed(refusal),
-        kept: kept(row, 0),
+        count: also(refusal),
+        kept: kept,
     }
 }
 
-// How many records a refusal says are needed.
-fn needed(refusal: Refusal) -> usize {
+// What a refusal also returns.
+fn also(refusal: Refusal) -> usize {
     match refusal {
         Refusal::Table { needed } => needed as usize,
+        Refusal::Unsound { index } => index as usize,
+        Refusal::Room { needed } => needed as usize,
         _ => 0,
     }
 }

@@ -4,11 +4,12 @@ use crate::agree::one_more_if;
 use crate::answers::narrow;
 use crate::differs::show_grid;
 use crate::files::Held;
-use crate::files::Told;
 use crate::files::front;
 use crate::files::list_of;
 use crate::files::read;
+use crate::files::read_told;
 use crate::files::write;
+use crate::first::Told;
 use crate::random;
 use crate::random::CELLS;
 use crate::same::same_back;
@@ -82,16 +83,14 @@ fn cells_short(file: &[u8], cells: usize, count: usize) -> bool {
     if cells == 0 {
         return true;
     }
-    let taken = read(file, cells - 1, count);
-    tells(taken.told, 13, cells)
+    tells(read_told(read(file, cells - 1, count)), 13, cells)
 }
 
 fn entries_short(file: &[u8], cells: usize, count: usize) -> bool {
     if count == 0 {
         return true;
     }
-    let taken = read(file, cells, count - 1);
-    tells(taken.told, 5, count)
+    tells(read_told(read(file, cells, count - 1)), 5, count)
 }
 
 fn one_less(bytes: usize) -> usize {
@@ -103,5 +102,5 @@ fn one_less(bytes: usize) -> usize {
 
 // Whether a call tells that refusal and that number, and all that it does not count is as it was.
 fn tells(told: Told, refusal: u32, number: usize) -> bool {
-    told.refusal == refusal && told.number as usize == number && told.kept
+    told.refusal == refusal && told.count == number && told.kept
 }

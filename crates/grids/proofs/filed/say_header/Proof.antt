@@ -9,9 +9,10 @@ abbrev Inv-loop : tie.InvT-loop
 Inv-loop file i₀ t4 i = Unit {0}
 
 abbrev μ-loop : tie.MeasureT-loop
-μ-loop file i₀ t4 i = 6 - i
+μ-loop file i₀ t4 i = 24 - i
 
 pub say-header-spec : {M : Type 1} → statement M
 say-header-spec =
     tie.close
-    (tie.spec Inv-loop μ-loop (λ c. tt) (λ c. omega arith) (λ c κs. tt) (λ c. omega arith) (λ c. omega arith) (λ c. tt) (λ c. search needs) (λ c κs. tt) (λ c. tt))
+    (tie.spec Inv-loop μ-loop (λ c. tt) (λ c. omega arith) (λ c κs. tt) (λ c. omega arith) (λ c. omega arith) (λ c. tt)
+    (λ c. search needs) (λ c κs. tt) (λ c. tt))

@@ -13,4 +13,5 @@ abbrev μ-loop : tie.MeasureT-loop
 pub bytes-kept-spec : {M : Type 1} → statement M
 bytes-kept-spec =
     tie.close
-    (tie.spec Inv-loop μ-loop (λ c. tt) (λ c. omega arith) (λ c. tt) (λ c. omega arith) (λ c. omega arith) (λ c. tt) (λ c. tt))
+    (tie.spec Inv-loop μ-loop (λ c. tt) (λ c. omega arith) (λ c. tt) (λ c. omega arith) (λ c. omega arith) (λ c. tt)
+    (λ c. tt))

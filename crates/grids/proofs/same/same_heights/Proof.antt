@@ -14,4 +14,5 @@ abbrev μ-loop : tie.MeasureT-loop
 pub same-heights-spec : {M : Type 1} → statement M
 same-heights-spec =
     tie.close
-    (tie.spec Inv-loop μ-loop (λ c. tt) (λ c. search needs) (λ c. search needs) (λ c κs. tt) (λ c. tt) (λ c. omega arith) (λ c. omega arith) (λ c. tt) (λ c. tt))
+    (tie.spec Inv-loop μ-loop (λ c. tt) (λ c. search needs) (λ c. search needs) (λ c κs. tt) (λ c. tt)
+    (λ c. omega arith) (λ c. omega arith) (λ c. tt) (λ c. tt))

@@ -13,4 +13,5 @@ abbrev μ-loop : tie.MeasureT-loop
 pub same-rows-spec : {M : Type 1} → statement M
 same-rows-spec =
     tie.close
-    (tie.spec Inv-loop μ-loop (λ c. tt) (λ c κs. tt) (λ c κs. tt) (λ c κs. tt) (λ c. tt) (λ c. omega arith) (λ c. omega arith) (λ c. tt) (λ c. tt))
+    (tie.spec Inv-loop μ-loop (λ c. tt) (λ c κs. tt) (λ c κs. tt) (λ c κs. tt) (λ c. tt) (λ c. omega arith)
+    (λ c. omega arith) (λ c. tt) (λ c. tt))
