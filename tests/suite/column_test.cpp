@@ -240,16 +240,18 @@ void try_claims(Columns &columns) {
         for (const std::uint32_t taken : {0u, 1u, 0xffffffffu}) columns.check_claim({rows, taken, 0, 0, 0, 0}); // 1
     }
     for (const std::uint32_t rows : {1u, 2u, 1023u, 1024u}) {
+        const std::size_t column = rows;
         const auto most = static_cast<std::uint32_t>(cell_limit / rows);
-        columns.check_claim({rows, 1, 0, rows - std::size_t{1}, 0, 0});    // 9: above the lent grid, and 7
-        columns.check_claim({rows, most + 1, rows, huge, 0, 0});          // 9: above 1,048,576
-        columns.check_claim({rows, 0xffffffffu, 0, huge, 0, 0});          // 9, and 7
-        columns.check_claim({rows, most, rows - std::size_t{1}, huge, 0, 0}); // 7, and 3
-        columns.check_claim({rows, most, rows + std::size_t{1}, huge, 0, 0}); // 7, and 3
-        columns.check_claim({rows, most, rows, huge, 0, 0});              // 3, and 4
-        columns.check_claim({rows, most, rows, std::size_t{most} * rows, 0, 0}); // 3, and 8
-        columns.check_claim({rows, most - 1, rows, std::size_t{most - 1} * rows, 0, 0}); // 8, and 4
-        columns.check_claim({rows, most - 1, rows, std::size_t{most} * rows, 16 * std::size_t{most} * rows - 1, 0}); // 4
+        const std::size_t full = most * column;
+        columns.check_claim({rows, 1, 0, column - 1, 0, 0});                          // 9: above the grid; and 7
+        columns.check_claim({rows, most + 1, column, huge, 0, 0});                    // 9: above 1,048,576
+        columns.check_claim({rows, 0xffffffffu, 0, huge, 0, 0});                      // 9, and 7
+        columns.check_claim({rows, most, column - 1, huge, 0, 0});                    // 7, and 3
+        columns.check_claim({rows, most, column + 1, huge, 0, 0});                    // 7, and 3
+        columns.check_claim({rows, most, column, huge, 0, 0});                        // 3, and 4
+        columns.check_claim({rows, most, column, full, 0, 0});                        // 3, and 8
+        columns.check_claim({rows, most - 1, column, full - column, 0, 0});           // 8, and 4
+        columns.check_claim({rows, most - 1, column, full, 16 * full - 1, 0});        // 4
     }
 }
 

@@ -120,7 +120,8 @@ module _ (b k : ℕ) (xs : List Peak) where
     unfolding partOf
     row-cut v is =
         qed W (‵ (Cell b v) ∷ []) ∵
-        use1 W (‵ (cellAt fullShare (Entries .mir) (v ∷ []) b 0)) (W .laws .at-raw fullShare (tyArray T′.mir 64) b 0 v) $
+        use1 W (‵ (cellAt fullShare (Entries .mir) (v ∷ []) b 0))
+        (W .laws .at-raw fullShare (tyArray T′.mir 64) b 0 v) $
         owned ! Entries (Is Entries) (row-makes 𝓤 H A W) xs (v ∷ []) is $
         move ! (1 ∷ 0 ∷ []) $ fjoin ! $
         fpack ! (List Val) (λ vs. fsep (cellAt fullShare (Entries .mir) vs b 0) (Entries .own xs vs)) (v ∷ []) $

@@ -1,4 +1,5 @@
-// A row of records to lend: every entry holds a mark before a call, and those that the call does not fill hold it after.
+// A row of records to lend: every entry holds a mark before a call, and those that the call does not fill hold it
+// afterwards.
 use crate::records::put;
 use record::Peak;
 use second::Records;

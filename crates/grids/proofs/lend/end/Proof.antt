@@ -53,9 +53,10 @@ use Rattle.run.proofs.end.Met as called-thm
 use Rattle.grids.specs.declared.lend.Stepped.{Stepped}
 use Rattle.grids.proofs.lend.Stepped as L
 use Rattle.grids.proofs.lend.Stepped.Laws as L′
-use Rattle.grids.proofs.Parameters.{Parameter, plainly, number, shared, mutable, stays, spells, tells, goes as goes-all}
-use Rattle.grids.proofs.Parameters.{Spent, spends, none}
-use Rattle.grids.proofs.LentRow.{R, Entries, row, row-typed, row-field, rowAt, RowMut, KeptMut, lends-mut, back-mut, calls-lent}
+use Rattle.grids.proofs.Parameters.{Parameter, plainly, number, shared, mutable}
+use Rattle.grids.proofs.Parameters.{stays, spells, tells, goes as goes-all, Spent, spends, none}
+use Rattle.grids.proofs.LentRow.{R, Entries, row, row-typed, row-field}
+use Rattle.grids.proofs.LentRow.{rowAt, RowMut, KeptMut, lends-mut, back-mut, calls-lent}
 use Rattle.grids.proofs.lend.end.Key.{name as #lend·end}
 use Rattle.grids.proofs.lend.end as lend
 use Rattle.grids.proofs.lend.end.Statement as stated

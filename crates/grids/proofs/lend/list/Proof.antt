@@ -53,9 +53,10 @@ use Rattle.list.proofs.list.Met as called-thm
 use Rattle.grids.specs.declared.lend.Listed.{Listed}
 use Rattle.grids.proofs.lend.Listed as L
 use Rattle.grids.proofs.lend.Listed.Laws as L′
-use Rattle.grids.proofs.Parameters.{Parameter, number, shared, mutable, stays, spells, tells, goes as goes-all}
-use Rattle.grids.proofs.Parameters.{Spent, spends, none}
-use Rattle.grids.proofs.LentRow.{R, Entries, row, row-typed, row-field, rowAt, RowMut, KeptMut, lends-mut, back-mut, calls-lent}
+use Rattle.grids.proofs.Parameters.{Parameter, number, shared, mutable}
+use Rattle.grids.proofs.Parameters.{stays, spells, tells, goes as goes-all, Spent, spends, none}
+use Rattle.grids.proofs.LentRow.{R, Entries, row, row-typed, row-field}
+use Rattle.grids.proofs.LentRow.{rowAt, RowMut, KeptMut, lends-mut, back-mut, calls-lent}
 use Rattle.grids.proofs.lend.list.Key.{name as #lend·list}
 use Rattle.grids.proofs.lend.list as lend
 use Rattle.grids.proofs.lend.list.Statement as stated

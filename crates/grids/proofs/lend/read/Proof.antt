@@ -51,9 +51,10 @@ use Rattle.runfile.proofs.read.Met as called-thm
 use Rattle.grids.specs.declared.lend.Back.{Back}
 use Rattle.grids.proofs.lend.Back as L
 use Rattle.grids.proofs.lend.Back.Laws as L′
-use Rattle.grids.proofs.Parameters.{Parameter, number, shared, mutable, stays, spells, tells, goes as goes-all}
-use Rattle.grids.proofs.Parameters.{Spent, spends, none}
-use Rattle.grids.proofs.LentRow.{R, Entries, row, row-typed, row-field, rowAt, RowMut, KeptMut, lends-mut, back-mut, calls-lent}
+use Rattle.grids.proofs.Parameters.{Parameter, number, shared, mutable}
+use Rattle.grids.proofs.Parameters.{stays, spells, tells, goes as goes-all, Spent, spends, none}
+use Rattle.grids.proofs.LentRow.{R, Entries, row, row-typed, row-field}
+use Rattle.grids.proofs.LentRow.{rowAt, RowMut, KeptMut, lends-mut, back-mut, calls-lent}
 use Rattle.grids.proofs.lend.read.Key.{name as #lend·read}
 use Rattle.grids.proofs.lend.read as lend
 use Rattle.grids.proofs.lend.read.Statement as stated

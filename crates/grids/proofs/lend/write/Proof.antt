@@ -48,9 +48,10 @@ use Rattle.runfile.proofs.write as called
 use Rattle.runfile.proofs.write.Symbol as called-def
 use Rattle.runfile.proofs.write.Symbol.{name as #runfile·write}
 use Rattle.runfile.proofs.write.Met as called-thm
-use Rattle.grids.proofs.Parameters.{Parameter, number, shared, mutable, stays, spells, tells, goes as goes-all}
-use Rattle.grids.proofs.Parameters.{Spent, spends, none}
-use Rattle.grids.proofs.LentRow.{Entries, row, row-typed, rowAt, RowShr, KeptShr, lends-shr, back-shr, calls-lent}
+use Rattle.grids.proofs.Parameters.{Parameter, number, shared, mutable}
+use Rattle.grids.proofs.Parameters.{stays, spells, tells, goes as goes-all, Spent, spends, none}
+use Rattle.grids.proofs.LentRow.{Entries, row, row-typed}
+use Rattle.grids.proofs.LentRow.{rowAt, RowShr, KeptShr, lends-shr, back-shr, calls-lent}
 use Rattle.grids.proofs.lend.write.Key.{name as #lend·write}
 use Rattle.grids.proofs.lend.write as lend
 use Rattle.grids.proofs.lend.write.Statement as stated
