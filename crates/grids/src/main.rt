@@ -1,6 +1,8 @@
-// Runs every grid of section "Grids to check by", and each short cut that goes wrong, and prints a line for each.
+// Runs every grid of section "Grids to check by", each short cut that goes wrong, and calls that are lent one entry, cell
+// or byte too little, and prints a line for each.
 //
 // Then it runs made-up grids, on which the definitions fix how two answers are related, and counts those that agree.
+// The lister is asked through its public calls, each lent a row of records, with the second lister beside it.
 mod agree; // agree.rt: the batches of a run are the list
 mod answers; // answers.rt: the one place where answers come from, both listers asked
 mod backwards; // backwards.rt: the list of a grid that is read backwards
