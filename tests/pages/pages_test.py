@@ -80,6 +80,10 @@ for name in ("docs/PROMISES.md", "docs/MAP.md"):
     missing = {(crate, call) for crate, call in named if f"pub fn {call}(" not in code[crate]}
     assert named and not missing, missing
 
+# The edit that CONTRIBUTING.md shows is one of them.
+shown = page("crates/layout/must-fail/put_peak_puts_the_pass_behind_the_record.edit")
+assert "".join(f"    {line}\n" for line in shown.splitlines()) in page("CONTRIBUTING.md")
+
 # Each definition that docs/MAP.md names stands in the specs/ of the crate before it.
 found = 0
 for line in re.findall(r"^\|.*\|$", page("docs/MAP.md"), re.M):
