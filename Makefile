@@ -8,7 +8,7 @@ test:
 	@echo "test: layout, pages, tools, C++ tests, the program's files, then all proofs; some 20 minutes" >&2
 	@$(MAKE) --no-print-directory layout pages tools cpp-tools cpp-test peaks
 	@echo "test: proving every crate from nothing and trying every must-fail edit; some 15 minutes" >&2
-	@rt ci
+	@RT_JOBS=$${RT_JOBS:-4} python3 tests/edits/gate.py
 
 # rt runs the program on crates/peaks/stdin, on any processor, and keeps what it printed. Of what rt says, the lines on
 # each crate are shown, and all of it if something is not proved.

@@ -1,9 +1,10 @@
 # The C++ side: the header's check, the example, the test of the C entry, the benchmark.
 #
-#     cpp-test          cpp-header, cpp-example, cpp-suite and cpp-small
+#     cpp-test          cpp-header, cpp-example, cpp-suite, cpp-column and cpp-small
 #     cpp-header        the header compiles as C99 and as C++17, by itself
 #     cpp-example       builds and runs the example, and compares what it prints
 #     cpp-suite         builds and runs the hard test of the C entry
+#     cpp-column        builds and runs the test of the column call at its limits
 #     cpp-small         library and plain C++ agree on small grids, runs and files
 #     cpp-bench         times the library against plain C++; under an emulator it is cpp-instructions
 #     cpp-instructions  instructions per cell of library and reference, counted by the emulator
@@ -49,9 +50,10 @@ CPP_PART := 7
 CPP_HOW := , emulated
 endif
 
-.PHONY: cpp-test cpp-header cpp-example cpp-suite cpp-small cpp-bench cpp-instructions cpp-tools cpp-ready cpp-always
+.PHONY: cpp-test cpp-header cpp-example cpp-suite cpp-column cpp-small cpp-bench cpp-instructions cpp-tools cpp-ready
+.PHONY: cpp-always
 
-cpp-test: cpp-header cpp-example cpp-suite cpp-small
+cpp-test: cpp-header cpp-example cpp-suite cpp-column cpp-small
 
 cpp-header: | cpp-ready
 	@$(CPP_CXX) -x c -std=c99 -Wall -Wextra -Wpedantic -Werror -fsyntax-only include/mayexoton.h
@@ -66,6 +68,10 @@ cpp-example: $(CPP_OUT)/example
 cpp-suite: $(CPP_OUT)/suite_test
 	@printf 'hard test$(CPP_HOW): '
 	@$(CPP_RUN) $< $(CPP_PART)
+
+cpp-column: $(CPP_OUT)/column_test
+	@printf 'column at its limits$(CPP_HOW): '
+	@$(CPP_RUN) $<
 
 cpp-small: $(CPP_OUT)/bench $(CPP_OUT)/calls
 	@printf 'benchmark$(CPP_HOW): '
@@ -98,6 +104,10 @@ $(CPP_OUT)/example: examples/suite/example.cpp include/mayexoton.h $(CPP_OUT)/li
 $(CPP_OUT)/suite_test: tests/suite/suite_test.cpp tests/suite/definitions.hpp tests/suite/room.hpp \
     include/mayexoton.h $(CPP_OUT)/libsuite.a | cpp-ready
 	@$(CPP_CXX) $(CPP_FLAGS) $(CPP_SANITIZE) $< $(CPP_OUT)/libsuite.a -o $@
+
+$(CPP_OUT)/column_test: tests/suite/column_test.cpp tests/suite/room.hpp bench/meter.hpp \
+    $(CPP_OUT)/libmeter.a | cpp-ready
+	@$(CPP_CXX) $(CPP_FLAGS) -Ibench $(CPP_SANITIZE) $< $(CPP_OUT)/libmeter.a -o $@
 
 $(CPP_OUT)/bench: bench/bench.cpp bench/grids.hpp bench/instructions.hpp bench/reference.hpp bench/times.hpp \
     include/mayexoton.h $(CPP_OUT)/libsuite.a | cpp-ready

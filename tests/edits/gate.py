@@ -2,9 +2,10 @@
 """Runs `rt ci`, and holds each must-fail edit to the place where its header says that it is refused.
 
 An edit's header has one line `# Refused at FILE: NAME`: the first error of the prover's log stands in that file of the
-crate, in the lemma, answer or definition of that name. So an edit that is refused for another reason than the one it is
-there for fails the gate. The last line is that of `rt ci`, 'N passed, M failed', each edit that is refused elsewhere
-counted as failed.
+crate, in the lemma, answer or definition of that name. Errors that only say that something named was not admitted follow
+from another. Where the prover makes the proof by itself, the file is that of the code, and the name the function's. So an
+edit that is refused for another reason than the one it is there for fails the gate. The last line is that of `rt ci`,
+'N passed, M failed', each edit that is refused elsewhere counted as failed.
 
     gate.py             runs `rt ci` first
     gate.py --compare   compares the headers with the logs that are there, as `rt must-fail NAME` leaves them
@@ -17,16 +18,21 @@ import sys
 
 ROOT = pathlib.Path(__file__).resolve().parents[2]
 HEADER = re.compile(r"^# Refused at ((?:src|specs|proofs)/\S+): (\S+)$", re.M)
-ERROR = re.compile(r"^(\S+?):\d+:\d+: error(?:\[[\w-]+\])?: (?:`([^`]+)`)?", re.M)
+ERROR = re.compile(r"^(\S+?):\d+:\d+: error(?:\[[\w-]+\])?: (?:`([^`]+)`)?(?!.*not admitted)", re.M)
+UNPROVED = re.compile(r"^note: (\S+?):\d+:\d+: it is not proved", re.M)
+FUNCTION = re.compile(r"^fn \S*?(\w+): no proof", re.M)
 
 
 def refused_at(log, crate, label):
     """Where the first error of a log stands: the crate's file, and the name that it is in."""
-    first = ERROR.search(log)
-    if not first:
+    error, unproved, function = (found.search(log) for found in (ERROR, UNPROVED, FUNCTION))
+    if error:
+        place, name = error[1], error[2]
+    elif unproved and function:
+        place, name = unproved[1], function[1]
+    else:
         return None
-    file = first[1].split(f"/must-fail/{crate}/{label}/")[-1]
-    return file, first[2]
+    return place.split(f"/must-fail/{crate}/{label}/")[-1], name
 
 
 def misplaced():

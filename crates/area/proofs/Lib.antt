@@ -1,1 +1,1 @@
-pub mod Priority
+pub mod Priority  -- one number for "higher, or as high and earlier"

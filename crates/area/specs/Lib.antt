@@ -1,1 +1,1 @@
-pub mod Area
+pub mod Area  -- the four quarters, marks, priority

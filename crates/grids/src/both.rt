@@ -153,9 +153,12 @@ fn end_refusal(run: Run, grid: usize, lent: Lent, count: usize) -> u32 {
 }
 
 // Whether the first lister tells what the second one does: the refusal, with it the number of records needed where
-// the table is too short, or the records.
+// the table is too short, or the records; and whether all other entries of the table are as they were.
 fn tells(told: Told, out: &Records, refusal: u32, records: &Records, count: usize) -> bool {
     if told.refusal != refusal {
+        return false;
+    }
+    if !told.kept {
         return false;
     }
     match refusal {

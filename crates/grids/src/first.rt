@@ -1,23 +1,21 @@
-// The first lister, with its records in the second one's form.
-//
-// It is asked through the calls that leave the records in the work area, so that the room of the table is a number.
-ghost use mathlib.Core.Path.{_≡_};
-ghost use Prim.Native.Nat.{ℕ, _+_};
-ghost use Rattle.table.specs.Inner.{Standing};
-ghost use Rattle.run.specs.Running.{takenOf};
-ghost use Rattle.record.specs.declared.Handed.the-variants.{Count};
-use crate::records::put;
+// The first lister, asked through its public calls, with its records in the second one's form.
+ghost use Prim.Native.Nat.{_≤_};
+use crate::lend;
+use crate::row::Row;
+use crate::row::copy;
+use crate::row::kept;
+use crate::row::marked;
 use record::Handed;
-use record::Peak;
 use record::Refusal;
 use run::Run;
 use second::Records;
 
-// What a call tells: the number of its refusal, 0 for none, and how many records it has. At refusal 5 they are those
-// that are needed.
+// What a call tells: the number of its refusal, 0 for none, how many records it has, and whether all that it does not
+// fill is as it was. At a refusal the number is that which it also returns: at 5 the records that are needed.
 pub struct Told {
     pub refusal: u32,
     pub count: usize,
+    pub kept: bool,
 }
 
 // The run record after a call, and what the call tells.
@@ -26,7 +24,7 @@ pub struct Stepped {
     pub told: Told,
 }
 
-// The whole-grid call.
+// The whole-grid call, with a row of `room` entries.
 pub fn whole(
     rows: u32,
     heights: &[i32],
@@ -35,8 +33,10 @@ pub fn whole(
     room: usize,
     out: &mut Records,
 ) -> Told {
-    let answer = list::flat(rows, heights, threshold, work, room);
-    handed_out(answer, work, heights.len(), out)
+    let listed = lend::list(rows, heights, threshold, work, marked(), within(room));
+    let handed = listed.handed;
+    let row = listed.row;
+    answered(handed, row, out)
 }
 
 // The column call.
@@ -48,108 +48,83 @@ pub fn column(
     room: usize,
     out: &mut Records,
 ) -> Stepped {
-    let cells = cells_with(run);
-    let step = run::column_flat(run, offered, grid, work, room);
-    let after = step.run;
-    let handed = step.handed;
-    let told = handed_out(handed, work, cells, out);
-    Stepped {
-        run: after,
-        told: told,
-    }
+    read_off(
+        lend::column(run, offered, grid, work, marked(), within(room)),
+        out,
+    )
 }
 
 // The end call.
 pub fn end(run: Run, grid: &[i32], work: &mut [u8], room: usize, out: &mut Records) -> Stepped {
-    let cells = cells_of(run);
-    let step = run::end_flat(run, grid, work, room);
+    read_off(lend::end(run, grid, work, marked(), within(room)), out)
+}
+
+// A run record at T = 1.
+pub fn taken(rows: u32, columns: u32, ended: bool) -> Run {
+    Run {
+        rows: rows,
+        columns: columns,
+        threshold: 1,
+        ended: ended,
+    }
+}
+
+// A number of entries that a row has.
+pub fn within(room: usize) -> usize
+    ensures { λ r. ⌜ r ≤ 64 ⌝ }
+{
+    if room > 64 {
+        return 64;
+    }
+    room
+}
+
+// What a call on a run tells.
+fn read_off(back: lend::Stepped, out: &mut Records) -> Stepped {
+    let step = back.step;
+    let row = back.row;
     let after = step.run;
     let handed = step.handed;
-    let told = handed_out(handed, work, cells, out);
+    let told = answered(handed, row, out);
     Stepped {
         run: after,
         told: told,
     }
 }
 
-// What a call tells.
-fn handed_out(handed: Handed, work: &[u8], cells: usize, out: &mut Records) -> Told
-    requires { ⌜ ((n : ℕ) → handed ≡ Count n → Standing (now work) cells n) ⌝ }
-{
+// What a call tells that hands out records.
+fn answered(handed: Handed, row: Row, out: &mut Records) -> Told {
     match handed {
-        Handed::Count(n) => copied(work, cells, n as usize, out),
-        Handed::Refused(refusal) => refused(refusal),
+        Handed::Count(n) => handed_out(n as usize, row, out),
+        Handed::Refused(refusal) => told_of(refusal, kept(row, 0)),
     }
 }
 
-// The cells that a run record says are taken. Two factors of 32 bits have a product of 64.
-fn cells_of(run: Run) -> usize
-    ensures { λ r. ⌜ r ≡ takenOf run ⌝ }
-{
-    let rows = run.rows;
-    let columns = run.columns;
-    words::index(columns) * words::index(rows)
-}
-
-// The same with one column more.
-fn cells_with(run: Run) -> usize
-    ensures { λ r. ⌜ r ≡ takenOf run + run .rows ⌝ }
-{
-    let rows = run.rows;
-    let columns = run.columns;
-    words::index(columns) * words::index(rows) + words::index(rows)
-}
-
-// What an accepted call tells, its records copied out of the work area.
-fn copied(work: &[u8], cells: usize, count: usize, out: &mut Records) -> Told
-    requires { ⌜ Standing (now work) cells count ⌝ }
-{
-    copy(work, cells, count, out);
+// What an accepted call tells, its records copied out of the row.
+fn handed_out(count: usize, row: Row, out: &mut Records) -> Told {
+    copy(row, count, out);
     Told {
         refusal: 0,
         count: count,
+        kept: kept(row, count),
     }
 }
 
-// What a refused call tells.
-fn refused(refusal: Refusal) -> Told {
+// What a refused call tells, where all is as it was or not.
+pub fn told_of(refusal: Refusal, kept: bool) -> Told {
     Told {
         refusal: record::number(refusal),
-        count: needed(refusal),
+        count: also(refusal),
+        kept: kept,
     }
 }
 
-// How many records a refusal says are needed.
-fn needed(refusal: Refusal) -> usize {
+// What a refusal also returns.
+fn also(refusal: Refusal) -> usize {
     match refusal {
         Refusal::Table { needed } => needed as usize,
+        Refusal::Unsound { index } => index as usize,
+        Refusal::Room { needed } => needed as usize,
         _ => 0,
     }
-}
-
-// Copies the records out of the work area.
-fn copy(work: &[u8], cells: usize, count: usize, out: &mut Records)
-    requires { ⌜ Standing (now work) cells count ⌝ }
-{
-    for i in 0..count {
-        put_peak(table::record_at(work, cells, i), i, out);
-    }
-}
-
-// Puts a peak into record i.
-fn put_peak(peak: Peak, i: usize, out: &mut Records) {
-    put(out, i, 0, of_unsigned(peak.cell));
-    put(out, i, 1, of_height(peak.height));
-    put(out, i, 2, of_height(peak.key));
-    put(out, i, 3, of_unsigned(peak.pass));
-}
-
-// A height or a key height as a number of a record.
-fn of_height(height: i32) -> i64 {
-    height as i64
-}
-
-// A cell or a pass as a number of a record.
-fn of_unsigned(n: u32) -> i64 {
-    n as i64
 }

@@ -1,11 +1,13 @@
 // A line for each answer: its name, a colon, and the records with a comma between them.
 use crate::answers::Call;
 use crate::answers::answer;
+use crate::first::Told;
 use crate::records::field;
 use crate::text::magnitude;
 use crate::text::say;
 use crate::text::say_count;
 use crate::text::say_field;
+use crate::text::say_named;
 use crate::text::say_number;
 use second::Records;
 
@@ -62,6 +64,22 @@ pub fn show_refusal(name: &[u8], number: u32) {
         say(b": gets ");
         say_count(number as u64);
         say(b"\n");
+    }
+}
+
+// Prints a refusal, what it also returns, and whether what was lent is as it was.
+pub fn show_told(name: &[u8], also: &[u8], told: Told) {
+    say(name);
+    say_named(b": gets ", told.refusal as u64);
+    say_named(also, told.count as u64);
+    say_kept(told.kept);
+}
+
+fn say_kept(kept: bool) {
+    if kept {
+        say(b", unchanged\n");
+    } else {
+        say(b", changed\n");
     }
 }
 

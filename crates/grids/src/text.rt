@@ -11,6 +11,12 @@ pub fn say_count(n: u64) {
     io::print_decimal(STDOUT_FILENO, n);
 }
 
+// Writes a number behind its name.
+pub fn say_named(name: &[u8], n: u64) {
+    say(name);
+    say_count(n);
+}
+
 // Writes a number with its sign.
 pub fn say_number(n: i64) {
     if n < 0 {

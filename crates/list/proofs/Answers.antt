@@ -94,7 +94,8 @@ module _ (rows : ℕ) (heights : List ℤ) (T room : ℕ) (work : List ℕ) {lef
       → ListsFlat rows heights T work room left (Refused r)
   grid-refused bad same =
       flat-refused (listTests rows (length heights) (length work))
-      (survey (touch? (planeOf rows)) (levels heights) (length heights) T) (survey-list (shape-terrain (planeOf rows) heights) T) bad same
+      (survey (touch? (planeOf rows)) (levels heights) (length heights) T)
+      (survey-list (shape-terrain (planeOf rows) heights) T) bad same
 
   pub grid-listed : GoodGrid rows (length heights) (length work) → {t : List ℕ} {k : ℕ} {a : Handed}
       → Loaded work t heights (length heights)

@@ -1,5 +1,5 @@
-pub mod Levels
-pub mod Refusals
-pub mod Tests
-pub mod Claims
-mod Widths
+pub mod Levels  -- levels, the mark, order and difference
+pub mod Refusals  -- refusals and answers are told apart by what they tell
+pub mod Tests  -- orders of refusals
+pub mod Claims  -- a proof of each claim
+mod Widths  -- casts between widths

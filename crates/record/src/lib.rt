@@ -16,8 +16,6 @@ pub struct Cell {
 impl Cell {
     // The blank mark, which is no height.
     pub const BLANK: i32 = -2147483648;
-    // The greatest height.
-    pub const GREATEST: i32 = 2147483647;
     // The most rows of a run.
     pub const MAX_ROWS: u32 = 1024;
     // The most cells of a run.

@@ -1,9 +1,10 @@
 -- Laws of heights and levels.
 --     heightOf-level            the height at a level has this level
 --     levels-end, levels-take   behind a grid's end levels are 0, and before a cut they are those of the whole grid
---     cut-below, cut-behind     levels below the limit are as they were, and 0 behind it
+--     cut-below, cut-behind     levels below the limit are as they were, and 0 behind it, ..
+--     cut-equal                 .. and no others count
 -- Assumes nothing.
-use mathlib.Core.Path.{_≡_, refl, ap}
+use mathlib.Core.Path.{_≡_, refl, sym, _∙_, ap, fun-ext}
 use mathlib.Core.Bool.{Bool, true, false}
 use mathlib.Core.List.{List}
 use Prim.Native.Nat.{ℕ, _-_, _≤_, _<_}
@@ -16,6 +17,7 @@ use lib.Seq.{getD-take}
 use borrow.Author.Tests.{leb-true, leb-false, lt-ltb, le-ltb}
 use Rattle.relief.specs.Heights.{BLANK, levelOf, heightOf, levels}
 use Rattle.relief.specs.Inner.{cut}
+use Rattle.relief.proofs.Tests.{split, le-or-lt}
 
 pub heightOf-level : (l : ℕ) → l < 4294967296 → (levelOf (heightOf l) ≡ l) × (mag (heightOf l) < 2147483648)
 unfolding heightOf levelOf
@@ -42,3 +44,10 @@ cut-below limit level c l = simp (lt-ltb c limit l)
 pub cut-behind : (limit : ℕ) (level : ℕ → ℕ) (c : ℕ) → limit ≤ c → cut limit level c ≡ 0
 unfolding cut
 cut-behind limit level c l = simp (le-ltb c limit l)
+
+-- levels that agree below the limit are one function once cut there
+pub cut-equal : (limit : ℕ) (f g : ℕ → ℕ) → ((c : ℕ) → c < limit → f c ≡ g c) → cut limit f ≡ cut limit g
+cut-equal limit f g e = fun-ext λ c.
+    split (le-or-lt limit c)
+    (λ l. cut-behind limit f c l ∙ sym (cut-behind limit g c l))
+    (λ l. cut-below limit f c l ∙ e c l ∙ sym (cut-below limit g c l))

@@ -64,7 +64,7 @@ loaded-stage {s} {t} {heights} {n} {m} h l = fun-ext λ c.
 stage-is : (rows columns : ℕ) (whole : List ℤ) {s t : List ℕ} {heights : List ℤ} {n : ℕ} → Loaded s t heights n
     → columns * rows ≤ n
     → take (columns * rows) heights ≡ take (columns * rows) whole
-    → stageIn t (columns * rows) rows ≡ stageOf (planeOf rows) columns whole
+    → stageIn t (columns * rows) (planeOf rows) ≡ stageOf (planeOf rows) columns whole
 stage-is rows columns whole h l e = λ i. record {
   level = (loaded-stage h l ∙ ap levels e) i;
   cells = columns * rows;
@@ -90,7 +90,8 @@ module _ (run : Run) (column grid : List ℤ) (room : ℕ) (work : List ℕ) whe
     grid-after = ap (λ (c : Checked). columnGrid c run column grid) (sym bad);
   }
 
-  pub end-refused : {left : List ℕ} {r : Refusal} → firstOf (endTests run (length grid) (length work)) ≡ Bad r → left ≡ work
+  pub end-refused : {left : List ℕ} {r : Refusal}
+      → firstOf (endTests run (length grid) (length work)) ≡ Bad r → left ≡ work
       → EndsFlat run grid work room left run (Refused r)
   end-refused bad same = record {
     hands = flat-refused (endTests run (length grid) (length work))
@@ -148,7 +149,8 @@ module _ (run : Run) (column grid : List ℤ) (work : List ℕ)
   module _ (room : ℕ) {left t : List ℕ} {copy : List ℤ} {k : ℕ} (ec : copy ≡ paste grid held column (length column))
       (loaded : Loaded work t copy (held + r))
       (made : Answered t left (held + r)
-      (Closing (touchOf (planeOf r)) (stageIn t held r) (stageIn t (held + r) r) (run .threshold)) k) where
+      (Closing (touchOf (planeOf r)) (stageIn t held (planeOf r)) (stageIn t (held + r) (planeOf r))
+      (run .threshold)) k) where
     paste-is : copy ≡ paste grid (heldOf run) column (length column)
     paste-is = ec ∙ ap (λ (x : ℕ). paste grid x column (length column)) eh
 
@@ -166,21 +168,21 @@ module _ (run : Run) (column grid : List ℤ) (work : List ℕ)
     loaded-is : Loaded work t copy (with run)
     loaded-is = subst (Loaded work t copy) (ap₂ (λ (x y : ℕ). x + y) eh er) loaded
 
-    stage-before : stageIn t (heldOf run) (run .rows)
+    stage-before : stageIn t (heldOf run) (shapeOf run)
         ≡ stageOf (shapeOf run) (run .columns) (heightsWith run column grid)
     stage-before = stage-is (run .rows) (run .columns) (heightsWith run column grid) loaded-is (omega arith)
         (copy-take (heldOf run) (omega arith))
 
-    stage-after : stageIn t (with run) (run .rows)
+    stage-after : stageIn t (with run) (shapeOf run)
         ≡ stageOf (shapeOf run) (suc (run .columns)) (heightsWith run column grid)
     stage-after =
         let e = suc-mul (run .columns) (run .rows) in
-        ap (λ (m : ℕ). stageIn t m (run .rows)) (sym e)
+        ap (λ (m : ℕ). stageIn t m (shapeOf run)) (sym e)
         ∙ stage-is (run .rows) (suc (run .columns)) (heightsWith run column grid) loaded-is (omega arith)
         (copy-take (suc (run .columns) * run .rows) (omega arith))
 
-    made-is : Answered t left (with run) (Closing (touchOf (shapeOf run)) (stageIn t (heldOf run) (run .rows))
-        (stageIn t (with run) (run .rows)) (run .threshold)) k
+    made-is : Answered t left (with run) (Closing (touchOf (shapeOf run)) (stageIn t (heldOf run) (shapeOf run))
+        (stageIn t (with run) (shapeOf run)) (run .threshold)) k
     made-is = rw (er, eh) at made
 
     pub column-made : {a : Handed} {run′ : Run} → a ≡ roomAnswer room k → run′ ≡ columnRun a run
@@ -205,7 +207,8 @@ module _ (run : Run) (grid : List ℤ) (work : List ℕ) (g : GoodEnd run (lengt
     all = let f = g .fits in omega arith;
   }
 
-  pub end-surveying : {t : List ℕ} {heights : List ℤ} {r : ℕ} → Loaded work t heights held → r ≡ run .rows → Surveying t held r
+  pub end-surveying : {t : List ℕ} {heights : List ℤ} {r : ℕ} → Loaded work t heights held → r ≡ run .rows
+      → Surveying t held r
   end-surveying h er = record {
     area = record {
       few = let c = g .cells in omega arith;
@@ -219,12 +222,13 @@ module _ (run : Run) (grid : List ℤ) (work : List ℕ) (g : GoodEnd run (lengt
   end-few h = let i = h .counted .few in let c = g .cells in omega arith
 
   module _ (room : ℕ) {left t : List ℕ} {k r : ℕ} (er : r ≡ run .rows) (loaded : Loaded work t grid held)
-      (made : Answered t left held (Remaining (touchOf (planeOf r)) (stageIn t held r) (run .threshold)) k) where
+      (made : Answered t left held
+      (Remaining (touchOf (planeOf r)) (stageIn t held (planeOf r)) (run .threshold)) k) where
     loaded-held : Loaded work t grid (heldOf run)
     loaded-held = subst (Loaded work t grid) eh loaded
 
     made-held : Answered t left (heldOf run)
-        (Remaining (touchOf (shapeOf run)) (stageIn t (heldOf run) (run .rows)) (run .threshold)) k
+        (Remaining (touchOf (shapeOf run)) (stageIn t (heldOf run) (shapeOf run)) (run .threshold)) k
     made-held = rw (er, eh) at made
 
     pub end-made : {a : Handed} {run′ : Run} → a ≡ roomAnswer room k → run′ ≡ endRun a run

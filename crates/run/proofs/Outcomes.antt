@@ -118,7 +118,8 @@ end-flat-unique run run′ run″ grid work w v room a b p q =
 
 -- ---- the taken cells
 
-pub taken-passed : {run run′ : Run} {column grid grid′ : List ℤ} {work work′ : List ℕ} {table table′ : List Peak} {n : ℕ}
+pub taken-passed : {run run′ : Run} {column grid grid′ : List ℤ} {work work′ : List ℕ} {table table′ : List Peak}
+    {n : ℕ}
     → Columns run column grid grid′ work work′ table table′ run′ (Count n)
     → GoodColumn run (length column) (length grid) (length work)
 taken-passed {run} {column = column} {grid} {work = work} {table = table} {n = n} c =

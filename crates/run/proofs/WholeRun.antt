@@ -34,7 +34,8 @@ pub record Told (run : Run) (cells : List ℤ) (batches : List (List Entry)) : T
   pub whole : length cells ≡ heldOf run
   pub many : run .columns ≡ length batches
   pub closes : (j : ℕ) → j < length batches
-      → Batch (touchOf (shapeOf run)) (stageOf (shapeOf run) j cells) (stageOf (shapeOf run) (suc j) cells) (run .threshold)
+      → Batch (touchOf (shapeOf run)) (stageOf (shapeOf run) j cells) (stageOf (shapeOf run) (suc j) cells)
+      (run .threshold)
       (getD batches j [])
 
 -- further cells leave an earlier stage as it is
@@ -118,7 +119,8 @@ calls-told (unended {run} {run′} {cells} {batches = batches} c h) =
 pub run-holds : RunHolds
 run-holds run run′ cells grid batches n work work′ table table′ c e h =
     let t = calls-told c in
-    let r = claims .handing (shape-touching (shapeOf run)) (λ j. stageOf (shapeOf run) j cells) (length batches) (run .threshold)
+    let r = claims .handing (shape-touching (shapeOf run)) (λ j. stageOf (shapeOf run) j cells) (length batches)
+    (run .threshold)
     (λ j. getD batches j []) (h .hands .entries)
     (record { grows = claims .run-grows (shapeOf run) cells; batches = t .closes; ended = ended t }) in
     record {
@@ -134,13 +136,16 @@ run-holds run run′ cells grid batches n work work′ table table′ c e h =
     all t = take-all (length batches * run .rows) cells
         (let w = t .whole in let m = ap (λ (x : ℕ). x * run .rows) (t .many) in omega arith)
 
-    listed : Told run cells batches → (l : List Entry) → ListOf (touchOf (shapeOf run)) (levels cells) (run .threshold) l
+    listed : Told run cells batches → (l : List Entry)
+        → ListOf (touchOf (shapeOf run)) (levels cells) (run .threshold) l
         → ListOf (touchOf (shapeOf run)) (levels (take (length batches * run .rows) cells)) (run .threshold) l
     listed t l k = subst (λ (x : List ℤ). ListOf (touchOf (shapeOf run)) (levels x) (run .threshold) l) (sym (all t)) k
 
     ended : Told run cells batches
-        → Rest (touchOf (shapeOf run)) (stageOf (shapeOf run) (length batches) cells) (run .threshold) (h .hands .entries)
-    ended t = subst (λ (s : Stage). Rest (touchOf (shapeOf run)) s (run .threshold) (h .hands .entries)) same (h .hands .right)
+        → Rest (touchOf (shapeOf run)) (stageOf (shapeOf run) (length batches) cells) (run .threshold)
+        (h .hands .entries)
+    ended t =
+        subst (λ (s : Stage). Rest (touchOf (shapeOf run)) s (run .threshold) (h .hands .entries)) same (h .hands .right)
       where
         same : stageOf (shapeOf run) (run .columns) grid ≡ stageOf (shapeOf run) (length batches) cells
         same =

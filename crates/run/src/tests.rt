@@ -1,5 +1,5 @@
-// The tests of Column and End before the work, on a run record and the lengths of what is offered and lent, each list in
-// the paper's order.
+// The tests of Column and End before the work, on a run record and the lengths of what is offered and lent, in the
+// paper's order.
 ghost use mathlib.Core.Path.{_≡_};
 ghost use Rattle.record.specs.Refusals.{firstOf};
 ghost use Rattle.run.specs.Promises.{badRecord, runTests, columnTests, endTests};

@@ -20,33 +20,15 @@ use Rattle.relief.proofs.Lists.{entry-unique}
 use Rattle.words.specs.Words.{wordAt}
 use Rattle.words.proofs.Laws.{Bytes, bytes-beyond}
 use Rattle.area.specs.Area.{Area, levelIn, orderIn, parentIn, cellIn, markIn}
-use Rattle.sweep.specs.Sweep.{Surveyed, Shores}
-use Rattle.sweep.specs.Taking.{passOf, reachOf, shoreOf}
+use Rattle.sweep.specs.Sweep.{Surveyed, Shores, passOf, reachOf, shoreOf}
 use Rattle.survey.specs.declared.Part.{Part}
 use Rattle.survey.specs.declared.Part.the-variants.{Whole, Closing, Open}
-use Rattle.survey.specs.Collecting.{wantsPart, listedIn, openIn, chosenIn, Collected}
+use Rattle.survey.specs.Inner.{wantsPart, listedIn, openIn, chosenIn, Collected}
 use Rattle.survey.specs.Answers.{entryIn, Answered}
 use Rattle.survey.proofs.Places.{places-order}
-use Rattle.survey.proofs.CellKinds.{
-  always,
-  never,
-  decides-as,
-  Kind,
-  kind,
-  test-blank,
-  test-root,
-  test-slope,
-  test-hung,
-  open-root,
-  open-hung,
-  entry-root,
-  entry-hung,
-  entry-cell,
-  blank,
-  root,
-  slope,
-  hung,
-}
+use Rattle.survey.proofs.CellKinds.{always, never, decides-as, Kind, kind, test-blank, test-root, test-slope}
+use Rattle.survey.proofs.CellKinds.{test-hung, open-root, open-hung, entry-root, entry-hung, entry-cell, blank}
+use Rattle.survey.proofs.CellKinds.{root, slope, hung}
 
 -- t is s behind the work area, and as long
 pub record Behind (s t : List ℕ) (n : ℕ) : Type 0 where

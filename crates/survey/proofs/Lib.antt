@@ -1,8 +1,8 @@
-pub mod ChosenCells
-pub mod Places
-pub mod CellKinds
-pub mod Answers
-pub mod Surveys
-pub mod Marks
-pub mod Loads
-pub mod Records
+mod ChosenCells  -- the answers of `chosen`
+mod Places  -- entries of rising places are a list in reading order
+mod CellKinds  -- what the tests say of each kind of cell
+mod Answers  -- from a sweep and a collection to the entries handed out
+mod Surveys  -- rank, sweep and collect, one after the other
+mod Marks  -- the closed peaks of the first columns marked
+pub mod Loads  -- the levels of heights loaded
+pub mod Records  -- the records that stand in the work area are those of the entries

@@ -15,7 +15,7 @@ use Rattle.relief.specs.Peaks.{missing, key, Entry}
 use Rattle.area.specs.Area.{levelIn, orderIn, parentIn}
 use Rattle.record.specs.declared.Peak.{Peak}
 use Rattle.record.specs.Records.{withKey, withoutKey, recordOf}
-use Rattle.sweep.specs.Taking.{passOf}
+use Rattle.sweep.specs.Sweep.{passOf}
 use Rattle.table.specs.Inner.{peakIn, recordsIn}
 use Rattle.survey.specs.Answers.{pickKey, entryIn, upTo, entriesIn}
 

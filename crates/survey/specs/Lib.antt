@@ -1,2 +1,2 @@
-pub mod Collecting
-pub mod Answers
+pub mod Answers  -- what the public calls use
+pub mod Inner  -- choosing, collecting, marking: inner contracts

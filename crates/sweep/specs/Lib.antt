@@ -1,4 +1,4 @@
-pub mod Neighbours
-pub mod Sweep
-pub mod Joins
-pub mod Taking
+pub mod Sweep  -- what sweep asks and promises
+pub mod Places  -- eight places around a cell
+pub mod Joins  -- two regions joined: inner contracts
+pub mod Inner  -- a cell taken: inner contracts

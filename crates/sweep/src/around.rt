@@ -2,10 +2,10 @@
 ghost use mathlib.Core.Path.{_≡_};
 ghost use mathlib.Core.Bool.{_||_};
 ghost use Prim.Native.Nat.{_+_, _≤_};
+ghost use Rattle.relief.specs.Plane.{planeOf, touchOf};
 ghost use Rattle.area.specs.Area.{Area};
-ghost use Rattle.sweep.specs.Neighbours.{neighbourOf};
-ghost use Rattle.sweep.specs.Joins.{Around};
-ghost use Rattle.sweep.specs.Taking.{heldIn, Looking, Looks, Turning, Taken};
+ghost use Rattle.sweep.specs.Places.{neighbourOf, Around};
+ghost use Rattle.sweep.specs.Inner.{heldIn, Looking, Looks, Turning, Taken};
 use crate::places::neighbour;
 use crate::places::place;
 use crate::places::spread;
@@ -42,14 +42,15 @@ fn visit(
     limit: usize,
     newest: usize,
     x: usize,
-    row: usize,
     r: usize,
     i: usize,
     here: bool,
     known: bool,
 ) -> usize
-    requires { ⌜ Turning (now work) n rows limit newest x row r i here known ⌝ }
-    ensures { λ q. ⌜ Looks (now (work .entry)) (now (work .exit)) n rows limit newest x q (i + 1) ⌝ }
+    requires { ⌜ Turning (touchOf (planeOf rows)) (neighbourOf rows limit x) (now work) n rows limit newest x r i
+        here known ⌝ }
+    ensures { λ q. ⌜ Looks (touchOf (planeOf rows)) (neighbourOf rows limit x) (now (work .entry)) (now (work .exit)) n
+        limit newest x q (i + 1) ⌝ }
 {
     if !here {
         return r;
@@ -67,8 +68,8 @@ fn visit(
 //     1 x 6
 //     2 4 7
 pub fn look(work: &mut [u8], n: usize, rows: usize, limit: usize, newest: usize, x: usize)
-    requires { ⌜ Looking (now work) n rows limit newest x ⌝ }
-    ensures { λ r. ⌜ Taken (now (work .entry)) (now (work .exit)) n rows limit newest x ⌝ }
+    requires { ⌜ Looking (touchOf (planeOf rows)) (now work) n rows limit newest x ⌝ }
+    ensures { λ r. ⌜ Taken (touchOf (planeOf rows)) (now (work .entry)) (now (work .exit)) n limit newest x ⌝ }
 {
     let row = x % rows;
     let h0 = held(work, n, rows, limit, x, row, 0);
@@ -79,12 +80,12 @@ pub fn look(work: &mut [u8], n: usize, rows: usize, limit: usize, newest: usize,
     let h5 = held(work, n, rows, limit, x, row, 5);
     let h6 = held(work, n, rows, limit, x, row, 6);
     let h7 = held(work, n, rows, limit, x, row, 7);
-    let r = visit(work, n, rows, limit, newest, x, row, x, 0, h0, false);
-    let r = visit(work, n, rows, limit, newest, x, row, r, 1, h1, h0);
-    let r = visit(work, n, rows, limit, newest, x, row, r, 2, h2, h1);
-    let r = visit(work, n, rows, limit, newest, x, row, r, 3, h3, or(h0, h1));
-    let r = visit(work, n, rows, limit, newest, x, row, r, 4, h4, or(h1, h2));
-    let r = visit(work, n, rows, limit, newest, x, row, r, 5, h5, h3);
+    let r = visit(work, n, rows, limit, newest, x, x, 0, h0, false);
+    let r = visit(work, n, rows, limit, newest, x, r, 1, h1, h0);
+    let r = visit(work, n, rows, limit, newest, x, r, 2, h2, h1);
+    let r = visit(work, n, rows, limit, newest, x, r, 3, h3, or(h0, h1));
+    let r = visit(work, n, rows, limit, newest, x, r, 4, h4, or(h1, h2));
+    let r = visit(work, n, rows, limit, newest, x, r, 5, h5, h3);
     let r = visit(
         work,
         n,
@@ -92,11 +93,10 @@ pub fn look(work: &mut [u8], n: usize, rows: usize, limit: usize, newest: usize,
         limit,
         newest,
         x,
-        row,
         r,
         6,
         h6,
         or(h3, or(h4, h5)),
     );
-    visit(work, n, rows, limit, newest, x, row, r, 7, h7, or(h4, h6));
+    visit(work, n, rows, limit, newest, x, r, 7, h7, or(h4, h6));
 }

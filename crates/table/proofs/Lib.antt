@@ -1,7 +1,7 @@
-pub mod Laws
-pub mod Locals
-pub mod Upto
-pub mod LentAgain
-pub mod FillCall
-pub mod Handed
-pub mod NumberCalls
+pub mod Laws  -- records in the work area, and a row filled with them
+pub mod Locals  -- the locals of a walked function
+pub mod Upto  -- a loop over a row that counts up
+pub mod LentAgain  -- a slice lent again, and had back
+pub mod FillCall  -- the call of `fill` as a step
+pub mod Handed  -- calls that hand out records: each kind of return, one outcome
+pub mod NumberCalls  -- the calls of `cells_of` and `count_of` as steps

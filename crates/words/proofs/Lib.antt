@@ -1,1 +1,1 @@
-pub mod Laws
+pub mod Laws  -- numbers and the bytes that make them

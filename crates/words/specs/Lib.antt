@@ -1,1 +1,1 @@
-pub mod Words
+pub mod Words  -- 32-bit numbers in lent bytes

@@ -18,7 +18,10 @@ whole-requires c κs =
 room-answer-requires : tie.Need-room-answer-requires
 room-answer-requires c κs =
     let at-whole = c .before .before in
-    grid-few (at-whole .before .before .before .before .before .before .before .before .pre) (at-whole .whole .ensures)
+    let g = at-whole .before .before .before .before .before .before .before .before .pre in
+    let fits = g .fits in
+    let few = grid-few g (at-whole .whole .ensures) in
+    omega arith
 
 returns : tie.Need-returns
 returns c =

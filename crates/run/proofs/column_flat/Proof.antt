@@ -1,4 +1,5 @@
--- `column_flat`: a call that a test refuses changes nothing, and one that passes them is `column_good`. Assumes nothing.
+-- `column_flat`: a call that a test refuses changes nothing, and one that passes them is `column_good`. Assumes
+-- nothing.
 use mathlib.Core.Path.{refl, sym, _∙_}
 use lib.ListN.{length}
 use denote.Ref.{now}

@@ -38,8 +38,8 @@ returns c =
     let s = at-held .before .before in
     let a = s .args in
     end-made (a .run) (now (a .grid)) (now (a .work)) (s .pre) (at-held .held-cells .ensures) (a .room)
-    (at-rest .before .index .ensures) (at-load .load .ensures) (at-rest .rest .ensures) (c .before .room-answer .ensures)
-    (c .after-end .ensures)
+    (at-rest .before .index .ensures) (at-load .load .ensures) (at-rest .rest .ensures)
+    (c .before .room-answer .ensures) (c .after-end .ensures)
 
 pub end-good-spec : {M : Type 1} → statement M
 end-good-spec =
