@@ -1,9 +1,9 @@
-pub mod Complement
-pub mod Rows
-pub mod Over
-pub mod WriteAnswer
-pub mod ReadAnswer
-pub mod Files
-pub mod Room
-pub mod Laid
-pub mod HandedBytes
+mod Complement  -- two's complement
+pub mod Rows  -- rows of bytes, heights and records
+pub mod Over  -- bytes laid over others
+pub mod Laid  -- records laid one behind the other
+pub mod WriteAnswer  -- the tests and the answer of `write`
+pub mod ReadAnswer  -- the tests and the answer of `read`
+pub mod Files  -- whole files, written and read
+pub mod Room  -- what `write` leaves in its room
+pub mod HandedBytes  -- answers as one number, and records handed out as bytes

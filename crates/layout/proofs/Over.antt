@@ -10,19 +10,13 @@ use mathlib.Core.Path.{_≡_, sym, ap, _∙_}
 use Prim.Native.Nat.{ℕ, zero, suc, _+_, _-_, _*_, _/_, _%_, _≤_, _<_}
 use native.Mathlib.Decide.{decLt, ℕ-discrete}
 use native.Mathlib.Nat.{add-zero}
-use native.Mathlib.Numerals.{add-one}
 use native.Mathlib.Omega.{arith}
 use lib.ListN.{length, getD, take, drop, length-append, length-drop, take-append-drop, List·getD-append}
 use lib.Seq.{take-at, drop-drop, drop-append-add, getD-append-add, getD-take, getD-drop, ext-getD, length-take-le}
-use lib.Seq.{take-suc}
-use Rattle.relief.specs.Heights.{BLANK}
-use Rattle.record.specs.declared.Peak.{Peak}
-use Rattle.record.specs.Records.{withoutKey}
 use Rattle.words.specs.Words.{wordAt, Stored}
-use Rattle.layout.specs.Layout.{wordOf, bytesOf, fieldsOf, allFieldsOf, totalOf}
-use Rattle.sound.specs.Sound.{ithOf}
-use Rattle.layout.specs.Inner.{over, laid}
-use Rattle.layout.proofs.Rows.{four-length, four-append, record-four, bytes-length, bytes-append}
+use Rattle.layout.specs.Layout.{wordOf, bytesOf}
+use Rattle.layout.specs.Inner.{over}
+use Rattle.layout.proofs.Rows.{bytes-length, bytes-append}
 
 -- ---- laid over
 

@@ -13,7 +13,7 @@
 -- Assumes nothing.
 use mathlib.Core.Bool.{Bool, true, false, not}
 use mathlib.Core.List.{List, [], _∷_}
-use mathlib.Core.Path.{_≡_, refl, sym, ap, ap₂, _∙_}
+use mathlib.Core.Path.{_≡_, sym, ap, _∙_}
 use Prim.Native.Nat.{ℕ, _+_, _*_, _≤_}
 use borrow.Author.Tests.{le-ltb, eq-eqb, ltb-false, eqb-true, not-false}
 use lib.Dec.{eqb, ltb}
@@ -28,7 +28,6 @@ use Rattle.record.specs.Inner.{thenTest}
 use Rattle.record.proofs.Refusals.{rows-right, rows-known, refusals-differ, told-refused}
 use Rattle.record.proofs.Tests.{Makes, then, first-passed, first-good, first-before, first-at, granted-good, told-by}
 use Rattle.words.specs.Words.{wordAt}
-use Rattle.sound.specs.Sound.{FirstUnsound}
 use Rattle.sound.proofs.Scans.{first-total, first-unique}
 use Rattle.layout.specs.declared.ReadBack.{ReadBack}
 use Rattle.layout.specs.declared.ReadBack.the-variants.{Run, Refused}

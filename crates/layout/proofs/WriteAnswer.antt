@@ -6,7 +6,7 @@
 --     written-writable               so it is where the answer is a number of bytes
 --     written-differ                 two answers that tell the same are one
 -- Assumes nothing.
-use mathlib.Core.Bool.{Bool, true, false, not}
+use mathlib.Core.Bool.{Bool, not}
 use mathlib.Core.List.{List, [], _∷_}
 use mathlib.Core.Path.{_≡_, refl, sym, ap, _∙_}
 use Prim.Native.Nat.{ℕ, _%_, _≤_, _<_}

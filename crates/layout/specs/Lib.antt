@@ -1,3 +1,3 @@
-pub mod Layout
-pub mod Promises
-pub mod Inner
+pub mod Layout  -- the bytes of a file
+pub mod Promises  -- answers, orders of refusals, records handed out as bytes
+pub mod Inner  -- what the functions below the calls ask and promise

@@ -24,7 +24,7 @@ use Rattle.layout.specs.declared.ReadBack.{ReadBack}
 use Rattle.layout.specs.declared.ReadBack.the-variants.{Run}
 use Rattle.layout.specs.Layout.{totalOf, fileOf, rowsIn, columnsIn, peaksIn, cellsIn, heightsIn, recordsFrom}
 use Rattle.sound.specs.Sound.{FirstUnsound, GridOf, SoundRow}
-use Rattle.layout.specs.Promises.{writeTests, roomAfter, readTests, ReadAnswers, lentAfter}
+use Rattle.layout.specs.Promises.{writeTests, roomAfter, lentAfter}
 use Rattle.layout.specs.Inner.{cellsToTake, recordsToTake}
 use Rattle.layout.proofs.Files.{file-length, file-rows, file-columns, file-peaks, file-offset, file-offset-2}
 use Rattle.layout.proofs.Files.{file-total, back-cells, back-heights, back-records, read-file}

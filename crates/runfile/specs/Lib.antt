@@ -1,2 +1,2 @@
-pub mod Promises
-pub mod Claims
+pub mod Promises  -- the promises of the two calls
+pub mod Claims  -- what is claimed beyond them

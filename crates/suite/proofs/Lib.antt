@@ -1,3 +1,3 @@
-mod Heights
-mod Answers
-pub mod Claims
+mod Answers  -- what the tests tell, and the promise before the records are handed out
+mod Heights  -- the heights of lent bytes loaded as levels
+pub mod Claims  -- the promise allows one outcome

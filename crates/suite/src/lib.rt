@@ -2,27 +2,16 @@
 ghost use mathlib.Core.Path.{_≡_};
 ghost use Prim.Native.Nat.{_*_, _≤_};
 ghost use lib.ListN.{length};
-ghost use Rattle.relief.specs.Heights.{levelOf};
 ghost use Rattle.record.specs.Refusals.{firstOf};
 ghost use Rattle.area.specs.Area.{Area};
 ghost use Rattle.survey.specs.Answers.{Loaded};
-ghost use Rattle.layout.specs.Layout.{signedOf, heightsFrom};
+ghost use Rattle.layout.specs.Layout.{heightsFrom};
 ghost use Rattle.suite.specs.Promises.{suiteTests, SuiteLists};
 ghost use Rattle.suite.specs.Inner.{SuiteFlat, GoodBytes};
 use record::Cell;
 use record::Checked;
 use record::Handed;
 use record::Refusal;
-
-// Flips the highest bit: the two's complement of a height becomes its level.
-fn flip(w: u32) -> u32
-    ensures { λ r. ⌜ r ≡ levelOf (signedOf w) ⌝ }
-{
-    if w < 2147483648 {
-        return w + 2147483648;
-    }
-    w - 2147483648
-}
 
 // Puts the levels of the first `n` heights of lent bytes into the first quarter.
 fn load_bytes(work: &mut [u8], heights: &[u8], n: usize)
@@ -31,7 +20,8 @@ fn load_bytes(work: &mut [u8], heights: &[u8], n: usize)
 {
     let mut c = 0;
     while c < n {
-        words::put(work, c, flip(words::get(heights, c)));
+        let height = layout::signed(words::get(heights, c));
+        words::put(work, c, record::level(height));
         c += 1;
     }
 }

@@ -1,7 +1,6 @@
 -- `meter::meter_read` meets its contract. Where the answer is a run, the file has its records and the table has room
 -- for them (`file-copyable`), and the table with them keeps the promise (`file-taken`); at a refusal none is taken.
 -- Assumes nothing.
-use mathlib.Core.List.{List}
 use mathlib.Core.Path.{sym, ap, ap₂, _∙_}
 use Prim.Native.Nat.{ℕ, _+_, _*_}
 use native.Mathlib.Omega.{arith}

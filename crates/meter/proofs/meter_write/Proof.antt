@@ -1,9 +1,7 @@
 -- `meter::meter_write` meets its contract. Where the answer is a number of bytes, header, heights and records are laid
 -- one behind the other (`row-written`); at a refusal nothing is laid. Assumes nothing.
-use mathlib.Core.List.{List}
 use mathlib.Core.Path.{ap, _∙_}
 use Prim.Native.Nat.{ℕ, _+_, _*_}
-use native.Mathlib.Omega.{arith}
 use denote.Ref.{now}
 use lib.ListN.{length}
 use mir.Syntax.{w64}

@@ -1,6 +1,6 @@
 -- `sound::has_fit_keys` meets its contract: an answer false names the clause that fails, and the two others are tests
 -- themselves (`ByLevels`). Assumes nothing.
-use mathlib.Core.Bool.{true, false}
+use mathlib.Core.Bool.{false}
 use mathlib.Core.Path.{_≡_, sym, ap, _∙_}
 use native.Mathlib.Omega.{arith}
 use borrow.Author.Needs.{needs}

@@ -1,12 +1,17 @@
 -- `suite::load_bytes` meets its contract. The invariant is that of `survey::load`, over the heights of the lent bytes:
--- so many levels stand in the first quarter. A turn reads a number, flips it to its level and stores that. What is left
+-- so many levels stand in the first quarter. A turn reads a height and stores its level. What is left
 -- of the cells falls. Assumes nothing.
+use mathlib.Core.Path.{ap, _∙_}
 use Prim.Native.Nat.{_-_}
 use native.Mathlib.Omega.{arith}
 use denote.Ref.{now}
+use mir.Syntax.{w32}
+use mir.ValLaws.{toZ-ofZ}
+use borrow.Author.Needs.{needs}
+use Rattle.relief.specs.Heights.{levelOf}
 use Rattle.survey.proofs.Loads.{Loads, loads-start, loads-done}
-use Rattle.layout.specs.Layout.{heightsFrom}
-use Rattle.suite.proofs.Heights.{loads-flip}
+use Rattle.layout.specs.Layout.{signedOf, heightsFrom}
+use Rattle.suite.proofs.Heights.{loads-signed}
 use Rattle.suite.proofs.load_bytes.Statement.{statement}
 use Rattle.suite.proofs.load_bytes.Tie as tie
 
@@ -24,12 +29,9 @@ loop-holds c =
 get-requires : tie.Need-get-requires Inv-loop μ-loop
 get-requires c κs = omega arith
 
-flip-requires : tie.Need-flip-requires Inv-loop μ-loop
-flip-requires c κs = tt
-
 put-requires : tie.Need-put-requires Inv-loop μ-loop
 put-requires c κs =
-    let at-loop = c .before .before .before .before in
+    let at-loop = c .before .before .before .before .before in
     omega (arith, at-loop .before .before .before .pre .0 .room, at-loop .loop .inv .len)
 
 add-c : tie.Need-add-c Inv-loop μ-loop
@@ -41,12 +43,15 @@ loop-less c = omega arith
 loop-again : tie.Need-loop-again Inv-loop μ-loop
 loop-again c =
     let at-put = c .before .before in
-    let at-get = at-put .before .before in
-    let at-test = at-get .before .before in
+    let at-signed = at-put .before .before .before in
+    let at-test = at-signed .before .before in
     let at-loop = at-test .before in
-    loads-flip (now (at-loop .before .before .before .args .heights)) (at-loop .loop .inv)
-    (at-test .loop-test .taken) (at-get .get .ensures) (at-put .before .flip .ensures) (at-put .put .ensures)
-    (c .slice-known2 .given)
+    loads-signed (now (at-loop .before .before .before .args .heights)) (at-loop .loop .inv)
+    (at-test .loop-test .taken)
+    (at-put .before .level .ensures
+    ∙ ap levelOf (toZ-ofZ w32 _ (record { sfits = at-signed .signed .ok }) ∙ at-signed .signed .ensures
+    ∙ ap signedOf (at-signed .before .get .ensures)))
+    (at-put .put .ensures) (c .slice-known2 .given)
 
 same-length : tie.Need-same-length Inv-loop μ-loop
 same-length c = c .before .loop .inv .len
@@ -62,7 +67,8 @@ load-bytes-spec =
     μ-loop
     loop-holds
     get-requires
-    flip-requires
+    (λ c κs. search needs)
+    (λ c κs. search needs)
     put-requires
     add-c
     loop-less

@@ -7,7 +7,7 @@ use native.Mathlib.Omega.{arith}
 use borrow.Author.Needs.{needs}
 use denote.Ref.{now}
 use lib.ListN.{length}
-use Rattle.layout.specs.Layout.{peaksIn, cellsIn}
+use Rattle.layout.specs.Layout.{cellsIn}
 use Rattle.layout.specs.Promises.{miscounted}
 use Rattle.layout.proofs.ReadAnswer.{grid-known, header-early, header-made}
 use Rattle.layout.proofs.reader.check_header.Statement.{statement}

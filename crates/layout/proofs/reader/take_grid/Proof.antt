@@ -1,7 +1,7 @@
 -- `layout::take_grid` meets its contract. Where the answer is a run, the file has its heights and the lent row has
 -- room for them; at a refusal no height is taken. Assumes nothing.
 use mathlib.Core.List.{List, _++_}
-use mathlib.Core.Path.{_≡_, refl, sym, ap, _∙_}
+use mathlib.Core.Path.{_≡_, refl, ap, _∙_}
 use Prim.Native.Nat.{ℕ, _+_, _*_, _≤_, _<_}
 use native.Mathlib.Omega.{arith}
 use denote.Ref.{now}

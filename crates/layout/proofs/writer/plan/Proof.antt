@@ -1,7 +1,7 @@
 -- `layout::plan` meets its contract: its tests are those of `writeTests`, in their order. Behind those of the grid the
 -- cells are few, and behind 12 so are the records. Assumes nothing.
 use mathlib.Core.List.{[], _∷_}
-use mathlib.Core.Path.{_≡_, sym, ap, _∙_}
+use mathlib.Core.Path.{sym, ap, _∙_}
 use Prim.Native.Nat.{ℕ, _≤_}
 use native.Mathlib.Omega.{arith}
 use borrow.Author.Needs.{needs}

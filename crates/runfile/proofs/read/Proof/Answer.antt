@@ -4,7 +4,7 @@
 -- An answer that is a run comes from a file that can be read (`read-readable`), and is the run that is in it
 -- (`read-same`): so the two numbers are the file's own. At a refusal both are 0, and the table stays.
 -- Assumes nothing.
-use mathlib.Core.Path.{_≡_, refl, sym, ap}
+use mathlib.Core.Path.{_≡_, refl, ap}
 use mathlib.Core.List.{List, _++_}
 use Prim.Native.Nat.{ℕ}
 use native.Mathlib.Omega.{arith}
