@@ -5,8 +5,7 @@
 --     first-passed               where none refuses, none applies, ..
 --     first-good                 .. and the other way round
 --     first-end                  where none of the tests applies, one more at the end decides
---     first-bad                  a refusal among the tests comes before one behind them
---     first-before, first-at     .. and before all behind them; a test is the first to apply where none before it does
+--     first-before, first-at     a refusal comes before all behind it; a test is the first where none before it applies
 --     told-by                    what a call tells by the answer of its tests
 --     granted-good               a call that is granted has passed them
 -- Assumes nothing.
@@ -83,10 +82,6 @@ first-good (test ∷ tests) p =
 pub first-end : (tests : List (Bool × Refusal)) (b : Bool) (r : Refusal) → firstOf tests ≡ Good
     → firstOf (tests ++ ((b, r) ∷ [])) ≡ cond b (Bad r) Good
 first-end tests b r e = sym (then-end tests b r) ∙ ap (λ (c : Checked). thenTest c b r) e
-
-pub first-bad : (tests : List (Bool × Refusal)) (b : Bool) (r : Refusal) {q : Refusal} → firstOf tests ≡ Bad q
-    → firstOf (tests ++ ((b, r) ∷ [])) ≡ Bad q
-first-bad tests b r e = sym (then-end tests b r) ∙ ap (λ (c : Checked). thenTest c b r) e
 
 pub first-before : (before rest : List (Bool × Refusal)) {q : Refusal} → firstOf before ≡ Bad q
     → firstOf (before ++ rest) ≡ Bad q

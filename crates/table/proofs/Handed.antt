@@ -26,7 +26,7 @@ use Rattle.record.specs.declared.Checked.the-variants.{Good, Bad}
 use Rattle.record.specs.Records.{recordOf}
 use Rattle.record.specs.Refusals.{granted, checkedTold, firstOf, handedTold}
 use Rattle.record.proofs.Refusals.{told-refused, handed-differ}
-use Rattle.record.proofs.Tests.{bad-not-good, first-end, first-bad}
+use Rattle.record.proofs.Tests.{bad-not-good, first-end, first-before}
 use Rattle.table.specs.Promises.{handedBy, tableAfter, Worked, Hands}
 use Rattle.table.specs.Inner.{Standing, recordsIn, Fillable, roomAnswer, countIn, cellsRead, HandsFlat}
 use Rattle.table.proofs.Laws.{filled-start}
@@ -80,7 +80,7 @@ module _ (tests : List (Bool × Refusal)) {cells : ℕ} {Right : List Entry → 
     entries = entries;
     right = right;
     answered = ap (λ (c : Checked). checkedTold c (granted (length entries ∷ [])))
-        (sym (first-bad tests (ltb room (length entries)) (Table (length entries)) bad));
+        (sym (first-before tests ((ltb room (length entries), Table (length entries)) ∷ []) bad));
     standing = λ n q. absurd (refused-count q);
     records = λ n q. absurd (refused-count q);
     worked = worked-early same;
@@ -172,7 +172,7 @@ told-passed tests room needed n told = go (firstOf tests) refl
     go Good e = refl
     go (Bad r) e = told-refused r (n ∷ []) (sym (told
         ∙ ap (λ (c : Checked). checkedTold c (granted (needed ∷ [])))
-        (first-bad tests (ltb room needed) (Table needed) e)))
+        (first-before tests ((ltb room needed, Table needed) ∷ []) e)))
 
 -- ---- one outcome
 
