@@ -1,43 +1,27 @@
--- The whole-grid call: what its tests tell, and its promise with and without the row.
+-- The whole-grid call: what its tests tell.
 --     tests-made       the tests made one after the other are those of the paper
 --     grid-good        what is known where none applies
---     list-right       what a survey of the loaded heights leaves is the list
---     grid-refused     the promise of a call that a test refuses; the list is there all the same
---     grid-listed      the promise of one that does its work
 -- Assumes nothing.
-use mathlib.Core.Path.{_≡_, refl, sym, _∙_, ap, subst}
+use mathlib.Core.Path.{_≡_, refl, _∙_, ap}
 use mathlib.Core.Bool.{Bool, not}
 use mathlib.Core.List.{List}
-use Prim.Native.Nat.{ℕ, _*_, _%_, _≤_, _<_}
+use Prim.Native.Nat.{ℕ, _*_, _%_, _<_}
 use native.Mathlib.Omega.{arith}
 use lib.Dec.{eqb, ltb}
 use lib.IntN.{ℤ}
 use lib.ListN.{length}
 use borrow.Author.Tests.{ltb-false}
-use Rattle.relief.specs.Heights.{levels}
-use Rattle.relief.specs.Peaks.{Entry, Listed, ListOf}
-use Rattle.relief.specs.Inner.{cut}
-use Rattle.relief.specs.Plane.{planeOf, touchOf}
-use Rattle.relief.proofs.Survey.{survey, survey-list}
-use Rattle.relief.proofs.Shapes.{touch?, shape-terrain}
-use Rattle.record.specs.declared.Refusal.{Refusal}
+use Rattle.relief.specs.Peaks.{Entry}
 use Rattle.record.specs.declared.Refusal.the-variants.{Rows, Length, Cells, Work}
 use Rattle.record.specs.declared.Checked.{Checked}
-use Rattle.record.specs.declared.Checked.the-variants.{Good, Bad}
-use Rattle.record.specs.declared.Handed.{Handed}
-use Rattle.record.specs.declared.Handed.the-variants.{Refused}
+use Rattle.record.specs.declared.Checked.the-variants.{Good}
 use Rattle.record.specs.Refusals.{badRows, firstOf}
 use Rattle.record.specs.Inner.{thenTest}
 use Rattle.record.proofs.Refusals.{rows-known}
 use Rattle.record.proofs.Tests.{make, then, first-passed}
-use Rattle.area.specs.Area.{levelIn}
-use Rattle.table.specs.Inner.{roomAnswer}
-use Rattle.table.proofs.Handed.{worked-late, flat-refused, flat-made}
-use Rattle.survey.specs.Answers.{entriesIn, Loading, Loaded, Surveying, Answered}
-use Rattle.survey.proofs.Records.{places-record, places-length}
-use Rattle.survey.proofs.Loads.{loaded-levels}
+use Rattle.survey.specs.Answers.{Loading, Loaded, Surveying, Answered}
 use Rattle.list.specs.Promises.{listTests}
-use Rattle.list.specs.Inner.{ListsFlat, GoodGrid}
+use Rattle.list.specs.Inner.{GoodGrid}
 
 -- ---- the tests
 
@@ -85,28 +69,3 @@ module _ {rows cells work : ℕ} (g : GoodGrid rows cells work) where
   -- so many cells are counted in 32 bits
   pub grid-few : {s t : List ℕ} {P : Entry → Type 0} {k : ℕ} → Answered s t cells P k → k < 4294967296
   grid-few h = let i = h .counted .few in let j = g .fits in omega arith
-
--- ---- the promise
-
-module _ (rows : ℕ) (heights : List ℤ) (T room : ℕ) (work : List ℕ) {left : List ℕ} where
-  -- refused before the list is made: it is there all the same
-  pub grid-refused : {r : Refusal} → firstOf (listTests rows (length heights) (length work)) ≡ Bad r → left ≡ work
-      → ListsFlat rows heights T work room left (Refused r)
-  grid-refused bad same =
-      flat-refused (listTests rows (length heights) (length work))
-      (survey (touch? (planeOf rows)) (levels heights) (length heights) T)
-      (survey-list (shape-terrain (planeOf rows) heights) T) bad same
-
-  pub grid-listed : GoodGrid rows (length heights) (length work) → {t : List ℕ} {k : ℕ} {a : Handed}
-      → Loaded work t heights (length heights)
-      → Answered t left (length heights) (Listed (touchOf (planeOf rows)) (cut (length heights) (levelIn t)) T) k
-      → a ≡ roomAnswer room k → ListsFlat rows heights T work room left a
-  grid-listed g {t} {k} loaded made =
-      flat-made (listTests rows (length heights) (length work)) (entriesIn left (length heights) k) right (g .good)
-      (worked-late (g .good) (made .len ∙ loaded .len) (λ i l. made .beyond i l ∙ loaded .beyond i l))
-      (sym (places-length _ k)) (made .counted) (places-record left (length heights) k)
-    where
-      right : ListOf (touchOf (planeOf rows)) (levels heights) T (entriesIn left (length heights) k)
-      right =
-          subst (λ (L : ℕ → ℕ). ListOf (touchOf (planeOf rows)) L T (entriesIn left (length heights) k))
-          (loaded-levels refl loaded) (made .order)

@@ -1,11 +1,9 @@
--- The C entry: what its tests tell, and its promise before the records are handed out.
+-- The C entry: what its tests tell.
 --     tests-made       the tests made one after the other are those of the paper
 --     bytes-good       what is known where none applies
 --     bytes-area, bytes-surveying, bytes-few    what the calls below ask
---     list-refused     the promise of a call that a test refuses; the list is there all the same
---     list-made        the promise of one that does its work
 -- Assumes nothing.
-use mathlib.Core.Path.{_≡_, refl, sym, _∙_, ap, subst}
+use mathlib.Core.Path.{_≡_, refl, _∙_, ap}
 use mathlib.Core.Bool.{Bool, not}
 use mathlib.Core.List.{List}
 use Prim.Native.Nat.{ℕ, _*_, _/_, _%_, _<_}
@@ -14,28 +12,16 @@ use lib.Dec.{eqb, ltb}
 use lib.IntN.{ℤ}
 use lib.ListN.{length}
 use borrow.Author.Tests.{ltb-false}
-use Rattle.relief.specs.Heights.{levels}
-use Rattle.relief.specs.Peaks.{Entry, Listed, ListOf}
-use Rattle.relief.specs.Inner.{cut}
-use Rattle.relief.specs.Plane.{planeOf, touchOf}
-use Rattle.relief.proofs.Survey.{survey, survey-list}
-use Rattle.relief.proofs.Shapes.{touch?, shape-terrain}
-use Rattle.record.specs.declared.Refusal.{Refusal}
+use Rattle.relief.specs.Peaks.{Entry}
 use Rattle.record.specs.declared.Refusal.the-variants.{Rows, Length, Cells, Work}
 use Rattle.record.specs.declared.Checked.{Checked}
-use Rattle.record.specs.declared.Checked.the-variants.{Good, Bad}
-use Rattle.record.specs.declared.Handed.{Handed}
-use Rattle.record.specs.declared.Handed.the-variants.{Refused}
+use Rattle.record.specs.declared.Checked.the-variants.{Good}
 use Rattle.record.specs.Refusals.{badRows, firstOf}
 use Rattle.record.specs.Inner.{thenTest}
 use Rattle.record.proofs.Refusals.{rows-known}
 use Rattle.record.proofs.Tests.{make, then, first-passed}
-use Rattle.area.specs.Area.{Area, levelIn}
-use Rattle.table.specs.Inner.{roomAnswer, HandsFlat}
-use Rattle.table.proofs.Handed.{worked-late, flat-refused, flat-made}
-use Rattle.survey.specs.Answers.{entriesIn, Loaded, Surveying, Answered}
-use Rattle.survey.proofs.Records.{places-record, places-length}
-use Rattle.survey.proofs.Loads.{loaded-levels}
+use Rattle.area.specs.Area.{Area}
+use Rattle.survey.specs.Answers.{Loaded, Surveying, Answered}
 use Rattle.suite.specs.Promises.{suiteTests}
 use Rattle.suite.specs.Inner.{GoodBytes}
 
@@ -81,24 +67,3 @@ module _ {rows bytes work : ℕ} (g : GoodBytes rows bytes work) where
   -- so many cells are counted in 32 bits
   pub bytes-few : {s t : List ℕ} {P : Entry → Type 0} {k : ℕ} → Answered s t (bytes / 4) P k → k < 4294967296
   bytes-few h = let i = h .counted .few in let j = g .fits in omega arith
-
--- ---- the promise
-
--- whatever the tests and the heights
-module _ (tests : List (Bool × Refusal)) (rows T room : ℕ) (hs : List ℤ) {n : ℕ} {work left : List ℕ} where
-  -- refused before the list is made: it is there all the same
-  pub list-refused : {r : Refusal} → firstOf tests ≡ Bad r → left ≡ work
-      → HandsFlat tests n (ListOf (touchOf (planeOf rows)) (levels hs) T) work room left (Refused r)
-  list-refused bad same =
-      flat-refused tests (survey (touch? (planeOf rows)) (levels hs) (length hs) T)
-      (survey-list (shape-terrain (planeOf rows) hs) T) bad same
-
-  pub list-made : firstOf tests ≡ Good → length hs ≡ n → {t : List ℕ} {k : ℕ} {a : Handed} → Loaded work t hs n
-      → Answered t left n (Listed (touchOf (planeOf rows)) (cut n (levelIn t)) T) k → a ≡ roomAnswer room k
-      → HandsFlat tests n (ListOf (touchOf (planeOf rows)) (levels hs) T) work room left a
-  list-made good len {t} {k} loaded made =
-      flat-made tests (entriesIn left n k)
-      (subst (λ (L : ℕ → ℕ). ListOf (touchOf (planeOf rows)) L T (entriesIn left n k)) (loaded-levels len loaded)
-      (made .order)) good
-      (worked-late good (made .len ∙ loaded .len) (λ i l. made .beyond i l ∙ loaded .beyond i l))
-      (sym (places-length _ k)) (made .counted) (places-record left n k)

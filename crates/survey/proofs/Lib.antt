@@ -6,3 +6,4 @@ mod Surveys  -- rank, sweep and collect, one after the other
 mod Marks  -- the closed peaks of the first columns marked
 pub mod Loads  -- the levels of heights loaded
 pub mod Records  -- the records that stand in the work area are those of the entries
+pub mod ListCalls  -- a call that lists a grid, whatever its tests

@@ -3,7 +3,10 @@ use mathlib.Core.Path.{refl, sym, _∙_}
 use lib.ListN.{length}
 use denote.Ref.{now}
 use borrow.Author.Needs.{needs}
-use Rattle.list.proofs.Answers.{grid-good, grid-refused}
+use Rattle.relief.specs.Plane.{planeOf}
+use Rattle.survey.proofs.ListCalls.{list-refused}
+use Rattle.list.specs.Promises.{listTests}
+use Rattle.list.proofs.Answers.{grid-good}
 use Rattle.list.proofs.flat.Statement.{statement}
 use Rattle.list.proofs.flat.Tie as tie
 
@@ -18,7 +21,8 @@ returns : tie.Need-returns
 returns c =
     let at-check = c .before .before .before in
     let a = at-check .before .before .args in
-    grid-refused (a .rows) (now (a .heights)) (a .threshold) (a .room) (now (a .work))
+    list-refused (listTests (a .rows) (length (now (a .heights))) (length (now (a .work)))) (planeOf (a .rows))
+    (a .threshold) (a .room) (now (a .heights))
     (sym (at-check .check .ensures) ∙ c .before .checked .given .1) refl
 
 pub flat-spec : {M : Type 1} → statement M

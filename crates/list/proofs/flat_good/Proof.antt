@@ -1,9 +1,13 @@
 -- `flat_good`: the levels are loaded and surveyed, and the room decides between 5 and the count. Assumes nothing.
 use mathlib.Core.Path.{refl}
 use native.Mathlib.Omega.{arith}
+use lib.ListN.{length}
 use denote.Ref.{now}
 use borrow.Author.Needs.{needs}
-use Rattle.list.proofs.Answers.{grid-loading, grid-surveying, grid-few, grid-listed}
+use Rattle.relief.specs.Plane.{planeOf}
+use Rattle.survey.proofs.ListCalls.{list-made}
+use Rattle.list.specs.Promises.{listTests}
+use Rattle.list.proofs.Answers.{grid-loading, grid-surveying, grid-few}
 use Rattle.list.proofs.flat_good.Statement.{statement}
 use Rattle.list.proofs.flat_good.Tie as tie
 
@@ -29,7 +33,8 @@ returns c =
     let at-load = at-whole .before .before .before .before .before in
     let s = at-load .before .before .before in
     let a = s .args in
-    grid-listed (a .rows) (now (a .heights)) (a .threshold) (a .room) (now (a .work)) (s .pre) (at-load .load .ensures)
+    list-made (listTests (a .rows) (length (now (a .heights))) (length (now (a .work)))) (planeOf (a .rows))
+    (a .threshold) (a .room) (now (a .heights)) (s .pre .good) refl (at-load .load .ensures)
     (rw (at-whole .before .index .ensures) at (at-whole .whole .ensures)) (c .room-answer .ensures)
 
 pub flat-good-spec : {M : Type 1} → statement M

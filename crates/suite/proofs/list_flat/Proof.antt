@@ -5,9 +5,11 @@ use Prim.Native.Nat.{_/_}
 use lib.ListN.{length}
 use denote.Ref.{now}
 use borrow.Author.Needs.{needs}
+use Rattle.relief.specs.Plane.{planeOf}
+use Rattle.survey.proofs.ListCalls.{list-refused}
 use Rattle.layout.specs.Layout.{heightsFrom}
 use Rattle.suite.specs.Promises.{suiteTests}
-use Rattle.suite.proofs.Answers.{bytes-good, list-refused}
+use Rattle.suite.proofs.Answers.{bytes-good}
 use Rattle.suite.proofs.list_flat.Statement.{statement}
 use Rattle.suite.proofs.list_flat.Tie as tie
 
@@ -22,8 +24,8 @@ returns : tie.Need-returns
 returns c =
     let at-check = c .before .before .before in
     let a = at-check .before .before .before .args in
-    list-refused (suiteTests (a .rows) (length (now (a .heights))) (length (now (a .work)))) (a .rows) (a .threshold)
-    (a .room) (heightsFrom (now (a .heights)) 0 (length (now (a .heights)) / 4))
+    list-refused (suiteTests (a .rows) (length (now (a .heights))) (length (now (a .work)))) (planeOf (a .rows))
+    (a .threshold) (a .room) (heightsFrom (now (a .heights)) 0 (length (now (a .heights)) / 4))
     (sym (at-check .check .ensures) ∙ c .before .checked .given .1) refl
 
 pub list-flat-spec : {M : Type 1} → statement M

@@ -6,10 +6,12 @@ use native.Mathlib.Omega.{arith}
 use denote.Ref.{now}
 use lib.ListN.{length}
 use borrow.Author.Needs.{needs}
+use Rattle.relief.specs.Plane.{planeOf}
+use Rattle.survey.proofs.ListCalls.{list-made}
 use Rattle.layout.specs.Layout.{heightsFrom}
 use Rattle.layout.proofs.Rows.{heights-length}
 use Rattle.suite.specs.Promises.{suiteTests}
-use Rattle.suite.proofs.Answers.{bytes-area, bytes-surveying, bytes-few, list-made}
+use Rattle.suite.proofs.Answers.{bytes-area, bytes-surveying, bytes-few}
 use Rattle.suite.proofs.list_good.Statement.{statement}
 use Rattle.suite.proofs.list_good.Tie as tie
 
@@ -35,8 +37,8 @@ returns c =
     let s = at-load .before .before .before .before in
     let a = s .args in
     let n = length (now (a .heights)) / 4 in
-    list-made (suiteTests (a .rows) (length (now (a .heights))) (length (now (a .work)))) (a .rows) (a .threshold)
-    (a .room) (heightsFrom (now (a .heights)) 0 n) (s .pre .good) (heights-length (now (a .heights)) 0 n)
+    list-made (suiteTests (a .rows) (length (now (a .heights))) (length (now (a .work)))) (planeOf (a .rows))
+    (a .threshold) (a .room) (heightsFrom (now (a .heights)) 0 n) (s .pre .good) (heights-length (now (a .heights)) 0 n)
     (at-load .load-bytes .ensures) (rw (at-whole .before .index .ensures) at (at-whole .whole .ensures))
     (c .room-answer .ensures)
 
