@@ -30,10 +30,4 @@ returns c = rw (c .before .before .index .ensures, c .before .index2 .ensures, c
 pub cells-with-spec : {M : Type 1} → statement M
 cells-with-spec =
     tie.close
-    (tie.spec
-    (λ c κs. search needs)
-    (λ c κs. search needs)
-    mul-result
-    (λ c κs. search needs)
-    add-result
-    returns)
+    (tie.spec (λ c κs. search needs) (λ c κs. search needs) mul-result (λ c κs. search needs) add-result returns)

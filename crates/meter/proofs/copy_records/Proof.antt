@@ -61,18 +61,7 @@ returns c =
 pub copy-records-spec : {M : Type 1} → statement M
 copy-records-spec =
     tie.close
-    (tie.spec
-    Inv-loop
-    μ-loop
-    loop-holds
-    (λ c. omega (arith, ask (c .before) .room (omega arith)))
-    (λ c. omega (arith, ask (c .before) .room (omega arith)))
-    (λ c. omega (arith, ask (c .before) .long (omega arith)))
-    (λ c. omega (arith, ask (c .before) .long (omega arith)))
-    peak-from-requires
-    put-peak-requires
-    (λ c. omega arith)
-    (λ c. omega arith)
-    loop-again
-    same-length
-    returns)
+    (tie.spec Inv-loop μ-loop loop-holds (λ c. omega (arith, ask (c .before) .room (omega arith)))
+    (λ c. omega (arith, ask (c .before) .room (omega arith))) (λ c. omega (arith, ask (c .before) .long (omega arith)))
+    (λ c. omega (arith, ask (c .before) .long (omega arith))) peak-from-requires put-peak-requires (λ c. omega arith)
+    (λ c. omega arith) loop-again same-length returns)

@@ -80,15 +80,5 @@ returns c =
 pub first-unsound-spec : {M : Type 1} → statement M
 first-unsound-spec =
     tie.close
-    (tie.spec
-    Inv-loop
-    μ-loop
-    loop-holds
-    (λ c. omega arith)
-    peak-from-requires
-    scan-requires
-    add-i
-    loop-less
-    loop-again
-    (λ c κs. search needs)
-    returns)
+    (tie.spec Inv-loop μ-loop loop-holds (λ c. omega arith) peak-from-requires scan-requires add-i loop-less loop-again
+    (λ c κs. search needs) returns)

@@ -63,13 +63,5 @@ returns c =
 pub meter-read-spec : {M : Type 1} → statement M
 meter-read-spec =
     tie.close
-    (tie.spec
-    (λ c κs. search needs)
-    (λ c κs. search needs)
-    (λ c κs. search needs)
-    add-copy-records
-    copy-records-requires
-    (λ c κs. search needs)
-    (λ c. search needs)
-    (λ c. search needs)
-    returns)
+    (tie.spec (λ c κs. search needs) (λ c κs. search needs) (λ c κs. search needs) add-copy-records
+    copy-records-requires (λ c κs. search needs) (λ c. search needs) (λ c. search needs) returns)

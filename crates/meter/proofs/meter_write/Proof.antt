@@ -52,12 +52,5 @@ returns c =
 pub meter-write-spec : {M : Type 1} → statement M
 meter-write-spec =
     tie.close
-    (tie.spec
-    (λ c κs. search needs)
-    put-grid-requires
-    (λ c κs. search needs)
-    (λ c. search needs)
-    copy-records-requires
-    (λ c κs. search needs)
-    (λ c. search needs)
-    returns)
+    (tie.spec (λ c κs. search needs) put-grid-requires (λ c κs. search needs) (λ c. search needs) copy-records-requires
+    (λ c κs. search needs) (λ c. search needs) returns)

@@ -32,13 +32,5 @@ loop-again c = tt
 pub say-records-spec : {M : Type 1} → statement M
 say-records-spec =
     tie.close
-    (tie.spec
-    Inv-loop
-    μ-loop
-    loop-holds
-    record-at-requires
-    (λ c κs. search needs)
-    add-i
-    loop-less
-    loop-again
+    (tie.spec Inv-loop μ-loop loop-holds record-at-requires (λ c κs. search needs) add-i loop-less loop-again
     (λ c. search needs))

@@ -80,17 +80,5 @@ returns c =
 pub copy-spec : {M : Type 1} → statement M
 copy-spec =
     tie.close
-    (tie.spec
-    Inv-loop
-    μ-loop
-    loop-holds
-    mul-grid
-    shared-slice-copy-out-grid
-    add-t9
-    mul-t10
-    slice-set-from-grid
-    add-i
-    loop-less
-    loop-again
-    same-length
-    returns)
+    (tie.spec Inv-loop μ-loop loop-holds mul-grid shared-slice-copy-out-grid add-t9 mul-t10 slice-set-from-grid add-i
+    loop-less loop-again same-length returns)

@@ -73,14 +73,5 @@ returns-5 c hs len there =
 pub has-fit-keys-spec : {M : Type 1} → statement M
 has-fit-keys-spec =
     tie.close
-    (tie.spec
-    (λ c κs. search needs)
-    (λ c κs. search needs)
-    (λ c κs. search needs)
-    returns
-    returns-2
-    returns-3
-    (λ c κs. search needs)
-    returns-4
-    (λ c κs. search needs)
-    returns-5)
+    (tie.spec (λ c κs. search needs) (λ c κs. search needs) (λ c κs. search needs) returns returns-2 returns-3
+    (λ c κs. search needs) returns-4 (λ c κs. search needs) returns-5)

@@ -62,16 +62,5 @@ returns c = loads-done (c .before .before .before .slice-known .given) (c .befor
 pub load-bytes-spec : {M : Type 1} → statement M
 load-bytes-spec =
     tie.close
-    (tie.spec
-    Inv-loop
-    μ-loop
-    loop-holds
-    get-requires
-    (λ c κs. search needs)
-    (λ c κs. search needs)
-    put-requires
-    add-c
-    loop-less
-    loop-again
-    same-length
-    returns)
+    (tie.spec Inv-loop μ-loop loop-holds get-requires (λ c κs. search needs) (λ c κs. search needs) put-requires add-c
+    loop-less loop-again same-length returns)

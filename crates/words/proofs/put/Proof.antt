@@ -23,18 +23,6 @@ returns c = store-word (now (c .args .s)) (c .args .i) (c .args .v) (c .pre) (se
 pub put-spec : {M : Type 1} → statement M
 put-spec =
     tie.close
-    (tie.spec
-    (λ c. search needs)
-    (λ c. search needs)
-    (λ c. search needs)
-    (λ c. search needs)
-    (λ c. search needs)
-    slice-write-s-2
-    (λ c. search needs)
-    (λ c. search needs)
-    slice-write-s-3
-    (λ c. search needs)
-    (λ c. search needs)
-    slice-write-s-4
-    (λ c. search needs)
-    returns)
+    (tie.spec (λ c. search needs) (λ c. search needs) (λ c. search needs) (λ c. search needs) (λ c. search needs)
+    slice-write-s-2 (λ c. search needs) (λ c. search needs) slice-write-s-3 (λ c. search needs) (λ c. search needs)
+    slice-write-s-4 (λ c. search needs) returns)

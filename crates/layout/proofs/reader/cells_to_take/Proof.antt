@@ -11,9 +11,4 @@ returns c = c .grid-cells .ensures ∙ ap cellsToTake (sym (c .before .before .a
 pub cells-to-take-spec : {M : Type 1} → statement M
 cells-to-take-spec =
     tie.close
-    (tie.spec
-    (λ c. search needs)
-    (λ c κs. search needs)
-    (λ c. search needs)
-    returns
-    (λ c. search needs))
+    (tie.spec (λ c. search needs) (λ c κs. search needs) (λ c. search needs) returns (λ c. search needs))

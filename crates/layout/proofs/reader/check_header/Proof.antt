@@ -49,19 +49,8 @@ returns-2 c =
 pub check-header-spec : {M : Type 1} → statement M
 check-header-spec =
     tie.close
-    (tie.spec
-    (λ c κs. search needs)
-    (λ c. search needs)
-    returns
-    (λ c. search needs)
-    (λ c κs. omega (arith, known c .0))
-    (λ c κs. omega (arith, known (c .before) .0))
-    (λ c κs. search needs)
-    (λ c κs. omega (arith, known (c .before .before .before) .0))
-    (λ c κs. search needs)
-    is-miscounted-requires
-    (λ c κs. omega (arith, known (c .before .before .before .before .before .before) .0))
-    (λ c κs. search needs)
-    (λ c κs. search needs)
-    (λ c κs. search needs)
-    returns-2)
+    (tie.spec (λ c κs. search needs) (λ c. search needs) returns (λ c. search needs) (λ c κs. omega (arith, known c .0))
+    (λ c κs. omega (arith, known (c .before) .0)) (λ c κs. search needs)
+    (λ c κs. omega (arith, known (c .before .before .before) .0)) (λ c κs. search needs) is-miscounted-requires
+    (λ c κs. omega (arith, known (c .before .before .before .before .before .before) .0)) (λ c κs. search needs)
+    (λ c κs. search needs) (λ c κs. search needs) returns-2)

@@ -111,23 +111,8 @@ returns-3 c =
 pub judge-spec : {M : Type 1} → statement M
 judge-spec =
     tie.close
-    (tie.spec
-    (λ c κs. search needs)
-    (λ c. search needs)
-    returns
-    (λ c. search needs)
-    (λ c κs. omega (arith, whole c .long))
-    (λ c κs. omega (arith, whole (c .before) .long))
-    (λ c κs. omega (arith, whole (c .before .before) .long))
-    (λ c κs. search needs)
-    (λ c κs. search needs)
-    first-unsound-in-requires
-    narrow-requires
-    narrow-requires-2
-    (λ c κs. search needs)
-    (λ c κs. search needs)
-    (λ c κs. search needs)
-    (λ c. search needs)
-    (λ c. search needs)
-    returns-2
-    returns-3)
+    (tie.spec (λ c κs. search needs) (λ c. search needs) returns (λ c. search needs)
+    (λ c κs. omega (arith, whole c .long)) (λ c κs. omega (arith, whole (c .before) .long))
+    (λ c κs. omega (arith, whole (c .before .before) .long)) (λ c κs. search needs) (λ c κs. search needs)
+    first-unsound-in-requires narrow-requires narrow-requires-2 (λ c κs. search needs) (λ c κs. search needs)
+    (λ c κs. search needs) (λ c. search needs) (λ c. search needs) returns-2 returns-3)

@@ -63,9 +63,4 @@ returns c =
 pub take-grid-spec : {M : Type 1} → statement M
 take-grid-spec =
     tie.close
-    (tie.spec
-    (λ c κs. search needs)
-    (λ c κs. search needs)
-    take-heights-requires
-    (λ c. search needs)
-    returns)
+    (tie.spec (λ c κs. search needs) (λ c κs. search needs) take-heights-requires (λ c. search needs) returns)

@@ -90,17 +90,5 @@ returns c =
 pub take-heights-spec : {M : Type 1} → statement M
 take-heights-spec =
     tie.close
-    (tie.spec
-    Inv-loop
-    μ-loop
-    loop-holds
-    add-get
-    get-requires
-    (λ c κs. search needs)
-    mul-t9
-    slice-set-from-heights
-    add-i
-    loop-less
-    loop-again
-    same-length
-    returns)
+    (tie.spec Inv-loop μ-loop loop-holds add-get get-requires (λ c κs. search needs) mul-t9 slice-set-from-heights add-i
+    loop-less loop-again same-length returns)

@@ -61,15 +61,5 @@ returns c =
 pub lay-records-spec : {M : Type 1} → statement M
 lay-records-spec =
     tie.close
-    (tie.spec
-    Inv-loop
-    μ-loop
-    loop-holds
-    (λ c. omega arith)
-    record-at-requires
-    put-peak-requires
-    (λ c. omega arith)
-    (λ c. omega arith)
-    loop-again
-    same-length
-    returns)
+    (tie.spec Inv-loop μ-loop loop-holds (λ c. omega arith) record-at-requires put-peak-requires (λ c. omega arith)
+    (λ c. omega arith) loop-again same-length returns)

@@ -79,15 +79,5 @@ returns-2 c =
 pub first-unsound-in-spec : {M : Type 1} → statement M
 first-unsound-in-spec =
     tie.close
-    (tie.spec
-    Inv-loop
-    μ-loop
-    loop-holds
-    record-from-requires
-    is-sound-in-requires
-    returns
-    (λ c κs. search needs)
-    add-i
-    loop-less
-    loop-again
-    returns-2)
+    (tie.spec Inv-loop μ-loop loop-holds record-from-requires is-sound-in-requires returns (λ c κs. search needs) add-i
+    loop-less loop-again returns-2)

@@ -60,18 +60,7 @@ returns-4 c =
 pub plan-spec : {M : Type 1} → statement M
 plan-spec =
     tie.close
-    (tie.spec
-    (λ c κs. search needs)
-    (λ c. search needs)
-    returns
-    (λ c. search needs)
-    narrow-requires
-    returns-2
-    (λ c. record { fits = omega (arith, few c) })
-    (λ c. record { fits = omega (arith, few c) })
-    (λ c. record { fits = omega (arith, few c) })
-    (λ c. record { fits = omega (arith, few c) })
-    (λ c κs. omega (arith, few (c .before)))
-    returns-3
-    (λ c κs. omega (arith, few (c .before)))
-    returns-4)
+    (tie.spec (λ c κs. search needs) (λ c. search needs) returns (λ c. search needs) narrow-requires returns-2
+    (λ c. record { fits = omega (arith, few c) }) (λ c. record { fits = omega (arith, few c) })
+    (λ c. record { fits = omega (arith, few c) }) (λ c. record { fits = omega (arith, few c) })
+    (λ c κs. omega (arith, few (c .before))) returns-3 (λ c κs. omega (arith, few (c .before))) returns-4)

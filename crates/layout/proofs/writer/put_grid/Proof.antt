@@ -76,12 +76,5 @@ returns-2 c =
 pub put-grid-spec : {M : Type 1} → statement M
 put-grid-spec =
     tie.close
-    (tie.spec
-    (λ c κs. search needs)
-    (λ c. search needs)
-    (λ c. search needs)
-    (λ c. search needs)
-    put-header-requires
-    put-heights-requires
-    (λ c. search needs)
-    returns-2)
+    (tie.spec (λ c κs. search needs) (λ c. search needs) (λ c. search needs) (λ c. search needs) put-header-requires
+    put-heights-requires (λ c. search needs) returns-2)

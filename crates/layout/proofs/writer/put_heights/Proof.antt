@@ -116,17 +116,5 @@ returns c =
 pub put-heights-spec : {M : Type 1} → statement M
 put-heights-spec =
     tie.close
-    (tie.spec
-    Inv-loop
-    μ-loop
-    loop-holds
-    add-put-word
-    mul-bits
-    shared-slice-copy-out-bits
-    (λ c κs. search needs)
-    put-word-requires
-    add-i
-    loop-less
-    loop-again
-    same-length
-    returns)
+    (tie.spec Inv-loop μ-loop loop-holds add-put-word mul-bits shared-slice-copy-out-bits (λ c κs. search needs)
+    put-word-requires add-i loop-less loop-again same-length returns)
