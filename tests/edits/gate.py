@@ -2,10 +2,10 @@
 """Runs `rt ci`, and holds each must-fail edit to the place where its header says that it is refused.
 
 An edit's header has one line `# Refused at FILE: NAME`: the first error of the prover's log stands in that file of the
-crate, in the lemma, answer or definition of that name. Errors that only say that something named was not admitted follow
-from another. Where the prover makes the proof by itself, the file is that of the code, and the name the function's. So an
-edit that is refused for another reason than the one it is there for fails the gate. The last line is that of `rt ci`,
-'N passed, M failed', each edit that is refused elsewhere counted as failed.
+crate, in the lemma, answer or definition of that name. Errors that only say that something named was not admitted
+follow from another. Where the prover makes the proof by itself, the file is that of the code, and the name the
+function's. So an edit that is refused for another reason than the one it is there for fails the gate. The last line is
+that of `rt ci`, 'N passed, M failed', each edit that is refused elsewhere counted as failed.
 
     gate.py             runs `rt ci` first
     gate.py --compare   compares the headers with the logs that are there, as `rt must-fail NAME` leaves them

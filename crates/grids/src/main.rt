@@ -1,5 +1,5 @@
-// Runs every grid of section "Grids to check by", each short cut that goes wrong, and calls that are lent one entry, cell
-// or byte too little, and prints a line for each.
+// Runs every grid of section "Grids to check by", each short cut that goes wrong, and calls that are lent one entry,
+// cell or byte too little, and prints a line for each.
 //
 // Then it runs made-up grids, on which the definitions fix how two answers are related, and counts those that agree.
 // The lister is asked through its public calls, each lent a row of records, with the second lister beside it.
