@@ -17,7 +17,8 @@ use base.Fml.{Fml, ftrue, ffalse, feq, flt, fsep, fand, for, fwand, fex, fall, f
 use base.Fml.{fobs, fauth, fres, fbor, fobor, flent, fshr-bor}
 use prog.Wp.{Heap, Env}
 use ghost.Atoms.{Atoms}
-use types.Kit.{Given, Item, ‵, raw, _⊛_, some, given, later, mean, ⋆, push, nth, del, pull, Goal, allocs, frees, Seq, Step}
+use types.Kit.{Given, Item, ‵, raw, _⊛_, some, given, later, mean, ⋆, push, nth, del, pull, Goal, allocs, frees, Seq}
+use types.Kit.{Step}
 use types.Kit.{step, _$_}
 use types.Run.{alloc1, alloc0, free1}
 

@@ -225,10 +225,10 @@ unfolding code.routine tablesOf
 end-spec 𝓤 H 𝓜 𝓖 𝓡 =
     closes 𝓤 H 𝓜 𝓖 𝓡 parameters (plain (λ _. U.the-row)) (ends.clauses 𝓤 H (𝓖 .A) (𝓜 .mem) (𝓡 .run))
     code.env #run·end code.function (code.unfolded 𝓤 H 𝓜 𝓡)
-    (λ fm κs qs a g are. via 𝓤 _ (fst∗ 𝓤 _ (emp 𝓤)) (walk 𝓤 H (𝓖 .A) (givenOf 𝓤 H 𝓜 𝓖) (𝓜 .mem) (𝓡 .run) (κs .0)
-    (κs .1 .0) (κs .1 .1 .0) (qs .0) (qs .1 .0) (qs .1 .1 .0)
-    (a .0) (a .1 .0) (a .1 .1 .0 .ptr .0) (a .1 .1 .0 .ptr .1) (a .1 .1 .0 .name) (a .1 .1 .0 .now) (a .1 .1 .1 .0)
-    (are .0) (are .1 .0 .0 .1) (are .1 .1 .0 .0 .1) (are .1 .1 .1 .0 .0 .1) _ _ fm
+    (λ fm κs qs a g are. via 𝓤 _ (fst∗ 𝓤 _ (emp 𝓤))
+    (walk 𝓤 H (𝓖 .A) (givenOf 𝓤 H 𝓜 𝓖) (𝓜 .mem) (𝓡 .run) (κs .0) (κs .1 .0) (κs .1 .1 .0) (qs .0) (qs .1 .0)
+    (qs .1 .1 .0) (a .0) (a .1 .0) (a .1 .1 .0 .ptr .0) (a .1 .1 .0 .ptr .1) (a .1 .1 .0 .name) (a .1 .1 .0 .now)
+    (a .1 .1 .1 .0) (are .0) (are .1 .0 .0 .1) (are .1 .1 .0 .0 .1) (are .1 .1 .1 .0 .0 .1) _ _ fm
     (flat-known 𝓤 H 𝓜 𝓖 𝓡 code.env code.calls-run·end-flat)
     (held-known 𝓤 H 𝓜 𝓖 𝓡 code.env code.calls-run·records·held-cells)
     (cells-known 𝓤 H 𝓜 𝓖 𝓡 code.env code.calls-table·cells-of)

@@ -27,9 +27,9 @@ unfolding code.routine tablesOf
 first-unsound-spec 𝓤 H 𝓜 𝓖 𝓡 =
     closes 𝓤 H 𝓜 𝓖 𝓡 parameters (plain (λ _. usize)) (unsound.clauses 𝓤 H (𝓖 .A) (𝓜 .mem) (𝓡 .run))
     code.env #runfile·first-unsound code.function (code.unfolded 𝓤 H 𝓜 𝓡)
-    (λ fm κs qs a g are. via 𝓤 _ (fst∗ 𝓤 _ (emp 𝓤)) (walk 𝓤 H (𝓖 .A) (givenOf 𝓤 H 𝓜 𝓖) (𝓜 .mem) (𝓡 .run) (κs .0)
-    (κs .1 .0) (qs .0) (qs .1 .0)
-    (a .0) (a .1 .0 .ptr .0) (a .1 .0 .ptr .1) (a .1 .0 .name) (a .1 .0 .now) (are .0 .0 .1) (are .1 .0 .0 .1)
+    (λ fm κs qs a g are. via 𝓤 _ (fst∗ 𝓤 _ (emp 𝓤))
+    (walk 𝓤 H (𝓖 .A) (givenOf 𝓤 H 𝓜 𝓖) (𝓜 .mem) (𝓡 .run) (κs .0) (κs .1 .0) (qs .0) (qs .1 .0) (a .0)
+    (a .1 .0 .ptr .0) (a .1 .0 .ptr .1) (a .1 .0 .name) (a .1 .0 .now) (are .0 .0 .1) (are .1 .0 .0 .1)
     (tablesOf 𝓤 H 𝓜 (tables 𝓤 H 𝓜 𝓡 code.env))
     (knows ScanC scan-def.name scan-def.routine scan-thm.met 𝓤 H 𝓜 𝓖 𝓡 code.env code.calls-sound·scan)
     (knows ScannedC scanned-def.name scanned-def.routine scanned-thm.met 𝓤 H 𝓜 𝓖 𝓡 code.env code.calls-sound·scanned)))

@@ -31,4 +31,5 @@ take-records-spec 𝓤 H 𝓜 𝓖 𝓡 =
     (a .0 .ptr .0) (a .0 .ptr .1) (a .0 .name) (a .0 .now) (a .1 .0) (a .1 .1 .0) (a .1 .1 .1 .0)
     (are .1 .1 .0 .1) (are .1 .1 .1 .0 .1) (are .0 .0 .1) (are .1 .0 .0 .1) can
     (tablesOf 𝓤 H 𝓜 (tables 𝓤 H 𝓜 𝓡 code.env))
-    (knows RecordFrom record-from-def.name record-from-def.routine record-from-thm.met 𝓤 H 𝓜 𝓖 𝓡 code.env code.calls-layout·record-from)))
+    (knows RecordFrom record-from-def.name record-from-def.routine record-from-thm.met 𝓤 H 𝓜 𝓖 𝓡
+    code.env code.calls-layout·record-from)))

@@ -215,8 +215,9 @@ unfolding code.routine tablesOf
 write-spec 𝓤 H 𝓜 𝓖 𝓡 =
     closes 𝓤 H 𝓜 𝓖 𝓡 parameters (plain (λ _. S.the-row)) (write.clauses 𝓤 H (𝓖 .A) (𝓜 .mem) (𝓡 .run))
     code.env #runfile·write code.function (code.unfolded 𝓤 H 𝓜 𝓡)
-    (λ fm κs qs a g are. via 𝓤 _ (fst∗ 𝓤 _ (emp 𝓤)) (walk 𝓤 H (𝓖 .A) (givenOf 𝓤 H 𝓜 𝓖) (𝓜 .mem) (𝓡 .run) (κs .0) (κs .1 .0) (κs .1 .1 .0) (qs .0) (qs .1 .0) (qs .1 .1 .0)
-    (a .0) (a .1 .0) (a .1 .1 .0) (a .1 .1 .1 .0 .ptr .0) (a .1 .1 .1 .0 .ptr .1) (a .1 .1 .1 .0 .name)
+    (λ fm κs qs a g are. via 𝓤 _ (fst∗ 𝓤 _ (emp 𝓤))
+    (walk 𝓤 H (𝓖 .A) (givenOf 𝓤 H 𝓜 𝓖) (𝓜 .mem) (𝓡 .run) (κs .0) (κs .1 .0) (κs .1 .1 .0) (qs .0) (qs .1 .0)
+    (qs .1 .1 .0) (a .0) (a .1 .0) (a .1 .1 .0) (a .1 .1 .1 .0 .ptr .0) (a .1 .1 .1 .0 .ptr .1) (a .1 .1 .1 .0 .name)
     (a .1 .1 .1 .0 .now) (are .0 .1) (are .1 .0 .0 .1) (are .1 .1 .0 .0 .1) (are .1 .1 .1 .0 .0 .1) _ _ fm
     (first-known 𝓤 H 𝓜 𝓖 𝓡 code.env code.calls-runfile·first-unsound)
     (grid-known 𝓤 H 𝓜 𝓖 𝓡 code.env code.calls-layout·put-grid)

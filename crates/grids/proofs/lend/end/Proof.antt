@@ -54,10 +54,10 @@ use Rattle.run.proofs.end as called
 use Rattle.run.proofs.end.Symbol as called-def
 use Rattle.run.proofs.end.Symbol.{name as #run·end}
 use Rattle.run.proofs.end.Met as called-thm
-use Rattle.grids.specs.declared.lend.Stepped.{Stepped}
 use Rattle.grids.proofs.lend.Stepped as L
 use Rattle.grids.proofs.lend.Stepped.Laws as L′
-use Rattle.grids.proofs.LentRow.{R, Entries, row, row-typed, row-field}
+use Rattle.grids.proofs.Stepped.{returned, returned-is}
+use Rattle.grids.proofs.LentRow.{R, Entries, row, row-typed}
 use Rattle.grids.proofs.LentRow.{rowAt, RowMut, KeptMut, lends-mut, back-mut, calls-lent}
 use Rattle.grids.proofs.lend.end.Key.{name as #lend·end}
 use Rattle.grids.proofs.lend.end as lend
@@ -79,14 +79,6 @@ lo = localAt 11
 
 abbrev Called : {M : Type 1} → Promise M
 Called 𝓤 H A mem run = tripleOf 𝓤 H A called.signature (called.spec 𝓤 H A mem run)
-
--- what is returned: the answer, and the row after it
-abbrev returned : Step → List Peak → Stepped
-returned r ys = record { step = r; row = ys }
-
-returned-is : (r : Step) (u : Val) → Is S.the-row r (u ∷ []) → (ys : List Peak) (z : Val) → Is Entries ys (z ∷ [])
-    → Is L.the-row (returned r ys) (vstruct (vcons u (vcons z vnil)) ∷ [])
-returned-is r u is ys z ys-is = ((u ∷ [], (z ∷ [], tt)), (refl, (is, (row-field ys z ys-is, tt))))
 
 module _ {M : Type 1} (𝓤 : URA M) (H : Heap 𝓤) (A : Atoms 𝓤) (W : Given 𝓤 H A) (mem : Memory → SProp 𝓤)
     (run : Routine → Fun 𝓤) (κ₀ κ₁ : Lft) (q₀ q₁ : Share) (ru : Run) (room : ℕ) (g : RefT (List ℤ))
@@ -242,7 +234,7 @@ end-spec 𝓤 H 𝓜 𝓖 𝓡 =
     closes 𝓤 H 𝓜 𝓖 𝓡 parameters (plain (λ _. L.the-row)) (lend.clauses 𝓤 H (𝓖 .A) (𝓜 .mem) (𝓡 .run))
     code.env #lend·end code.function (code.unfolded 𝓤 H 𝓜 𝓡)
     (λ fm κs qs a g are. needs 𝓤 (a .1 .1 .1 .1 .0 ≤ 64) _ (λ few.
-    walk 𝓤 H (𝓖 .A) (givenOf 𝓤 H 𝓜 𝓖) (𝓜 .mem) (𝓡 .run) (κs .0) (κs .1 .0) (qs .0) (qs .1 .0)
-    (a .0) (a .1 .1 .1 .1 .0) (a .1 .0) (a .1 .1 .0) (a .1 .1 .1 .0) _ (are .0)
-    (are .1 .1 .1 .1 .0 .1) (are .1 .0 .0 .1) (are .1 .1 .0 .0 .1) (are .1 .1 .1 .0) few _ _ fm
+    walk 𝓤 H (𝓖 .A) (givenOf 𝓤 H 𝓜 𝓖) (𝓜 .mem) (𝓡 .run) (κs .0) (κs .1 .0) (qs .0) (qs .1 .0) (a .0)
+    (a .1 .1 .1 .1 .0) (a .1 .0) (a .1 .1 .0) (a .1 .1 .1 .0) _ (are .0) (are .1 .1 .1 .1 .0 .1) (are .1 .0 .0 .1)
+    (are .1 .1 .0 .0 .1) (are .1 .1 .1 .0) few _ _ fm
     (knows Called called-def.name called-def.routine called-thm.met 𝓤 H 𝓜 𝓖 𝓡 code.env code.calls-run·end)))

@@ -234,7 +234,6 @@ read-spec 𝓤 H 𝓜 𝓖 𝓡 =
     closes 𝓤 H 𝓜 𝓖 𝓡 parameters (plain (λ _. L.the-row)) (lend.clauses 𝓤 H (𝓖 .A) (𝓜 .mem) (𝓡 .run))
     code.env #lend·read code.function (code.unfolded 𝓤 H 𝓜 𝓡)
     (λ fm κs qs a g are. needs 𝓤 (a .1 .1 .1 .0 ≤ 64) _ (λ few.
-    walk 𝓤 H (𝓖 .A) (givenOf 𝓤 H 𝓜 𝓖) (𝓜 .mem) (𝓡 .run) (κs .0) (κs .1 .0) (qs .0) (qs .1 .0)
-    (a .1 .1 .1 .0) (a .0) (a .1 .0) (a .1 .1 .0) _ (are .1 .1 .1 .0 .1) (are .0 .0 .1) (are .1 .0 .0 .1)
-    (are .1 .1 .0) few _ _ fm
+    walk 𝓤 H (𝓖 .A) (givenOf 𝓤 H 𝓜 𝓖) (𝓜 .mem) (𝓡 .run) (κs .0) (κs .1 .0) (qs .0) (qs .1 .0) (a .1 .1 .1 .0) (a .0)
+    (a .1 .0) (a .1 .1 .0) _ (are .1 .1 .1 .0 .1) (are .0 .0 .1) (are .1 .0 .0 .1) (are .1 .1 .0) few _ _ fm
     (knows Called called-def.name called-def.routine called-thm.met 𝓤 H 𝓜 𝓖 𝓡 code.env code.calls-runfile·read)))

@@ -210,8 +210,8 @@ module _ {M : Type 1} (𝓤 : URA M) (H : Heap 𝓤) (A : Atoms 𝓤) (W : Given
         (goes (l 6)) (gives (l 6)) (λ ν δ. and-then ! (copied ! (lo 3 1) refl) (and-then ! (copied ! (lo 3 2) refl)
         (and-then ! (copied ! (hi 3 8) refl) (and-then ! (copied ! (hi 3 10) refl) (no-more !))))) (λ r u is ys z ys-is.
         land ! (from ! (stop !)) (init ! (lo 3 0) refl (EL.lawful S.the-type S′.the-laws 𝓤 H A W tt .typed r _ is .0)) $
-        returns ! (look ! (lo 3 0) refl) $ releases ! (lo 3 0) 6 refl $ releases ! 1 1 refl $ releases !
-        (hi 1 7) 4 refl $ free0 ! $
+        returns ! (look ! (lo 3 0) refl) $ releases ! (lo 3 0) 6 refl $ releases ! 1 1 refl $
+        releases ! (hi 1 7) 4 refl $ free0 ! $
         by ! (exits r u is)))
 
 pub write-spec : {M : Type 1} → stated.statement M
@@ -220,7 +220,7 @@ write-spec 𝓤 H 𝓜 𝓖 𝓡 =
     closes 𝓤 H 𝓜 𝓖 𝓡 parameters (plain (λ _. S.the-row)) (lend.clauses 𝓤 H (𝓖 .A) (𝓜 .mem) (𝓡 .run))
     code.env #lend·write code.function (code.unfolded 𝓤 H 𝓜 𝓡)
     (λ fm κs qs a g are. needs 𝓤 (a .1 .1 .1 .0 ≤ 64) _ (λ few.
-    walk 𝓤 H (𝓖 .A) (givenOf 𝓤 H 𝓜 𝓖) (𝓜 .mem) (𝓡 .run) (κs .0) (κs .1 .0) (qs .0) (qs .1 .0)
-    (a .0) (a .1 .1 .1 .0) (a .1 .0) (a .1 .1 .1 .1 .0) (a .1 .1 .0) _ (are .0 .1)
-    (are .1 .1 .1 .0 .1) (are .1 .0 .0 .1) (are .1 .1 .1 .1 .0 .0 .1) (are .1 .1 .0) few _ _ fm
+    walk 𝓤 H (𝓖 .A) (givenOf 𝓤 H 𝓜 𝓖) (𝓜 .mem) (𝓡 .run) (κs .0) (κs .1 .0) (qs .0) (qs .1 .0) (a .0) (a .1 .1 .1 .0)
+    (a .1 .0) (a .1 .1 .1 .1 .0) (a .1 .1 .0) _ (are .0 .1) (are .1 .1 .1 .0 .1) (are .1 .0 .0 .1)
+    (are .1 .1 .1 .1 .0 .0 .1) (are .1 .1 .0) few _ _ fm
     (knows Called called-def.name called-def.routine called-thm.met 𝓤 H 𝓜 𝓖 𝓡 code.env code.calls-runfile·write)))

@@ -1,11 +1,11 @@
 -- The end of the walk of `first_unsound`: what the function then has makes its promise.
 --     R                   the type of a record
---     stayed              what the function still has of its parameters at the end
+--     parameters          the heights and the row, of which nothing is had at the end
 --     recordsVal, Recs    the machine's value of the row of records, and what the row owns
 --     args, vals          the parameters, and their machine values
 --     Ended               the postcondition of the walk
---     exits               the heights, the row and the tokens make it, where the number returned is as promised
--- The heights, the row and the tokens are as they came. The number fits, and is the index of the first unsound record
+--     exits               the tokens make it, where the number returned is as promised
+-- The tokens are as they came. The number fits, and is the index of the first unsound record
 -- (`FirstUnsound`). Assumes `Given`.
 use mathlib.Core.Path.{refl}
 use mathlib.Core.List.{List, [], _∷_}

@@ -1,11 +1,11 @@
 -- The end of the walk of `put_records`: what the function then has makes its promise.
 --     R                   the type of a record
---     stayed              what the function still has of its parameters at the end
+--     parameters          the room, which is kept; of the row and the two numbers nothing is had at the end
 --     recordsVal, Recs    the machine's value of the row of records, and what the row owns
 --     args, vals          the parameters, and their machine values
 --     Ended               the postcondition of the walk
---     exits               the room with the records laid over it up to the count, the row and the tokens make it
--- The numbers, the row and the tokens are as they came. The room is at a list as long, and of that list the contract
+--     exits               the room with the records laid over it up to the count and the tokens make it
+-- The tokens are as they came. The room is at a list as long, and of that list the contract
 -- says that it is `laid` up to the count. Assumes `Given`.
 use mathlib.Core.Path.{_≡_, refl}
 use mathlib.Core.List.{List, [], _∷_}

@@ -132,7 +132,8 @@ module _ {M : Type 1} (𝓤 : URA M) (H : Heap 𝓤) (A : Atoms 𝓤) (W : Given
         ‵ (flft κ₀ q₀) ∷ ‵ (Own (at (i .0))) ∷ ‵ (flft κ₁ q₁) ∷ ‵ Frac ∷ ‵ (Recs κ₁ r)
         ∷ ‵ (froom T′.mir (l 12) 0) ∷ ‵ (fdies T′.mir (l 12)) ∷ ‵ (froom tyPtr (l 11) 0) ∷ ‵ (fdies tyPtr (l 11))
         ∷ ‵ (froom word (l 10) 0) ∷ ‵ (fdies word (l 10)) ∷ ‵ (froom lent-type (l 9) 0) ∷ ‵ (fdies lent-type (l 9))
-        ∷ ‵ (froom pointer-type (l 8) 0) ∷ ‵ (fdies pointer-type (l 8)) ∷ ‵ (froom tyUnit (l 7) 0) ∷ ‵ (fdies tyUnit (l 7))
+        ∷ ‵ (froom pointer-type (l 8) 0) ∷ ‵ (fdies pointer-type (l 8)) ∷ ‵ (froom tyUnit (l 7) 0)
+        ∷ ‵ (fdies tyUnit (l 7))
         ∷ ‵ (froom tyBool (l 6) 0) ∷ ‵ (fdies tyBool (l 6))
         ∷ ‵ (fat fullShare word (l 5) 0 (vint w64 (i .0))) ∷ ‵ (fdies word (l 5))
         ∷ ‵ (fat fullShare word (l 4) 0 (vint w64 count)) ∷ ‵ (fdies word (l 4))
@@ -164,7 +165,8 @@ module _ {M : Type 1} (𝓤 : URA M) (H : Heap 𝓤) (A : Atoms 𝓤) (W : Given
         (from ! (stop !)) (init ! (loc 5 10) refl (tt, record { fits = bytes })) $
         assigns ! (bin ! (load ! (from ! (fld ! refl (stop !))) (look-in ! (loc 5 3) (sub ! 0 refl (whole !))))
         (copied ! (loc 5 10) refl) tt) (from ! (stop !)) (init ! (loc 5 11) refl (tt, tt)) $
-        rewrite ! (loc 5 11) (λ (p : ℕ). ‵ (fat fullShare tyPtr (l 11) 0 (vptr rb p))) (sym (place-is 16 ro (i .0))) refl $
+        rewrite ! (loc 5 11) (λ (p : ℕ). ‵ (fat fullShare tyPtr (l 11) 0 (vptr rb p)))
+        (sym (place-is 16 ro (i .0))) refl $
         -- the i-th record is copied out of the row
         move ! (3 ∷ 2 ∷ []) $
         looks-slice ! tt R (Is R) (shows 𝓤 H A R) (LL.vals T.the-type T′.the-laws) (LL.tells T.the-type T′.the-laws)

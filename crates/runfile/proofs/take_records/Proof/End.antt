@@ -1,10 +1,10 @@
 -- The end of the walk of `take_records`: what the function then has makes its promise.
 --     R                   the type of a record
---     stayed              what the function still has of its parameters at the end
+--     parameters          the table, which is kept; of the file and the two numbers nothing is had at the end
 --     args, vals          the parameters, and their machine values
 --     Ended               the postcondition of the walk
---     exits               the table filled up to the count, with its borrow closed, the file and the tokens make it
--- The numbers, the file and the tokens are as they came. The table is at a list as long, and of that list the contract
+--     exits               the table filled up to the count, with its borrow closed, and the tokens make it
+-- The tokens are as they came. The table is at a list as long, and of that list the contract
 -- says that it is `filledFrom` up to the count. Assumes `Given`.
 use mathlib.Core.Path.{_≡_, refl, sym, ap, subst}
 use mathlib.Core.List.{List, [], _∷_}
@@ -65,7 +65,8 @@ module _ (b o : ℕ) (γ : GName) (ys : List Peak) (s : RefT (List ℕ)) (n coun
     abbrev pub Ended : Val → SProp 𝓤
     Ended = walkOf 𝓤 H A take.ended stayed (take.clauses 𝓤 H A mem run) .post bound
 
-    pub exits : Given 𝓤 H A → Room R (length ys) → (zs : List Peak) → length zs ≡ length ys → zs ≡ filledFrom ys (s .now) n count
+    pub exits : Given 𝓤 H A → Room R (length ys) → (zs : List Peak) → length zs ≡ length ys
+        → zs ≡ filledFrom ys (s .now) n count
         → ent 𝓤 (⋆ 𝓤 H A (‵ (fobs γ (codedHoleys R .code (heres R zs))) ∷ ‵ (fbor κ (Held R (length zs) b o γ))
         ∷ ‵ (flft κ q) ∷ ‵ (flft κ′ q′) ∷ [])) (Ended vunit)
     exits W room zs l e =
