@@ -1,5 +1,5 @@
 -- `runfile::read` meets its contract: a walk of its MIR, by hand, after the kit's example `writer`, `proofs/put`.
---     stayed              what the function still has of its parameters at the end
+--     parameters, stayed  the parameters, and what the function still has of them at the end
 --     exits               what is left at the end is what the contract promises
 --     walk                the MIR from the entry
 -- There is no branch, and each call is one step. `calls-grid` and `calls-take` copy the file, and give the heights and

@@ -1,6 +1,6 @@
 -- `runfile::write` meets its contract: a walk of its MIR, by hand, after `proofs/read` of this crate and the kit's
 -- example `writer`, `proofs/put_back`.
---     stayed              what the function still has of its parameters at the end
+--     parameters, stayed  the parameters, and what the function still has of them at the end
 --     exits               what is left at the end is what the contract promises
 --     walk                the MIR from the entry
 -- There is no branch, and each call is one step. `calls-first` and `calls-grid` find the first unsound record, and lay
