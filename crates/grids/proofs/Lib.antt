@@ -1,4 +1,4 @@
 -- What is proved apart from any one function. Assumes nothing.
 pub mod Signed
-pub mod Parameters
 pub mod LentRow
+pub mod Stepped

@@ -13,12 +13,10 @@ use mir.Syntax.{Opd as Operand, Place, Body, w64, seq, call}
 use mir.Val.{Val, vint}
 use base.Logic.{SProp, ent, emp, snd∗, exE, id⊢}
 use prog.Memory.{Memory}
-use prog.Model.{Model}
-use prog.Routine.{Routine, Env as Routines}
+use prog.Routine.{Routine}
 use prog.Wp.{Heap, Env, Calls, Loops}
 use ghost.Atoms.{Atoms, sem}
 use contract.Monad.{Fun, fact}
-use contract.Running.{Running, GhostRules, tables}
 use types.Kit.{Given, Item, raw, Post, Seq, runs, lands, _$_, _∵_, !, qed}
 use types.Kit.{join, fjoin, frame, done}
 use types.Run.{Opds}
@@ -26,10 +24,10 @@ use sound.WpLaws.{FmC}
 use denote.Laws.{Is}
 use denote.Steps.{owned, nothing}
 use denote.Struct.Laws as LL
-use denote.Triple.Statement.{Contract, Triple}
+use denote.Triple.Statement.{Triple}
 use denote.Triple.Clauses.{ensured, lasts}
 use denote.Triple.Spec.{tripleOf}
-use denote.Triple.Table.{cited}
+use Rattle.table.proofs.Walks.{Known, Promise, knows}
 use Rattle.table.proofs.Locals.{calls-number}
 use Rattle.run.specs.declared.Run.{Run}
 use Rattle.run.specs.Promises.{heldOf}
@@ -40,16 +38,11 @@ use Rattle.run.proofs.records.held_cells.Symbol as held-cells-def
 use Rattle.run.proofs.records.held_cells.Symbol.{name as #run·held-cells}
 use Rattle.run.proofs.records.held_cells.Met as held-cells-thm
 
-module _ {M : Type 1} (𝓤 : URA M) (H : Heap 𝓤) (A : Atoms 𝓤) (mem : Memory → SProp 𝓤) (run : Routine → Fun 𝓤) where
-  abbrev pub HeldCells : Contract 𝓤
-  HeldCells = tripleOf 𝓤 H A held-cells.signature (held-cells.spec 𝓤 H A mem run)
+abbrev pub HeldCells : {M : Type 1} → Promise M
+HeldCells 𝓤 H A mem run = tripleOf 𝓤 H A held-cells.signature (held-cells.spec 𝓤 H A mem run)
 
-pub held-known : {M : Type 1} (𝓤 : URA M) (H : Heap 𝓤) (𝓜 : Model 𝓤 H) (𝓖 : GhostRules 𝓤 H) (𝓡 : Running 𝓤 H 𝓜)
-    (env : Routines) → env #run·held-cells ≡ held-cells-def.routine
-    → Triple 𝓤 (tables 𝓤 H 𝓜 𝓡 env .C #run·held-cells) (HeldCells 𝓤 H (𝓖 .A) (𝓜 .mem) (𝓡 .run))
-held-known 𝓤 H 𝓜 𝓖 𝓡 env e =
-    cited 𝓤 H (HeldCells 𝓤 H (𝓖 .A) (𝓜 .mem) (𝓡 .run)) 𝓜 𝓡 env #run·held-cells held-cells-def.routine e
-    (held-cells-thm.met 𝓤 H 𝓜 𝓖 𝓡)
+pub held-known : {M : Type 1} → Known M HeldCells #run·held-cells held-cells-def.routine
+held-known = knows HeldCells #run·held-cells held-cells-def.routine held-cells-thm.met
 
 module _ {M : Type 1} (𝓤 : URA M) (H : Heap 𝓤) (A : Atoms 𝓤) (W : Given 𝓤 H A) (mem : Memory → SProp 𝓤)
     (run : Routine → Fun 𝓤) (ru : Run) (u : Val) (is : Is N.the-row ru (u ∷ [])) where

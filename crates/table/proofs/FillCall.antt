@@ -19,13 +19,11 @@ use mir.Val.{Val, vint, hasTy, WT}
 use base.Logic.{SProp, ent, sep, ex, id⊢}
 use base.Fml.{Lft, GName, Share, Fml, ftrue, flft}
 use prog.Memory.{Memory}
-use prog.Model.{Model}
-use prog.Routine.{Routine, Env as Routines}
+use prog.Routine.{Routine}
 use prog.Wp.{Heap, Env, Calls, Loops}
 use ghost.Atoms.{Atoms, sem}
 use contract.Lifetimes.{Lfts}
 use contract.Monad.{Fun, fact}
-use contract.Running.{Running, GhostRules, tables}
 use types.Kit.{Given, Item, ‵, raw, _⊛_, some, later, ⋆, Post, Seq, runs, lands, _$_, _∵_, !, qed, move, keep, drop}
 use types.Kit.{group}
 use types.Kit.{use1, use2, split, join, pick, fsplit, fjoin, feqL, frame, await, show, done}
@@ -38,30 +36,26 @@ use denote.Builtin.{u8, usize, unit}
 use denote.Ref.{RefT}
 use denote.Slice.{sliceVal, MutSlice, ShrSlice, Room, finally}
 use denote.Steps.{owned, facts, heard, nothing}
-use denote.Triple.Statement.{Contract, Triple}
+use denote.Triple.Statement.{Triple}
 use denote.Triple.Call.{calls-at}
 use denote.Triple.Clauses.{Lasts, ensured, lasts}
 use denote.Triple.Spec.{tripleOf}
-use denote.Triple.Table.{cited}
 use denote.Triple.Walked.{says}
 use Rattle.record.specs.declared.Peak.{Peak}
 use Rattle.record.proofs.Peak as T
 use Rattle.table.specs.Inner.{recordsIn, Fillable}
+use Rattle.table.proofs.Walks.{Promise, Known, knows}
 use Rattle.table.proofs.LentAgain.{LentShr, shares-again, shared-back}
 use Rattle.table.proofs.fill as fill
 use Rattle.table.proofs.fill.Symbol as fill-def
 use Rattle.table.proofs.fill.Symbol.{name as #table·fill}
 use Rattle.table.proofs.fill.Met as fill-thm
 
-abbrev pub Fill : {M : Type 1} (𝓤 : URA M) (H : Heap 𝓤) (A : Atoms 𝓤) (mem : Memory → SProp 𝓤)
-    (run : Routine → Fun 𝓤) → Contract 𝓤
+abbrev pub Fill : {M : Type 1} → Promise M
 Fill 𝓤 H A mem run = tripleOf 𝓤 H A fill.signature (fill.spec 𝓤 H A mem run)
 
-pub fill-known : {M : Type 1} (𝓤 : URA M) (H : Heap 𝓤) (𝓜 : Model 𝓤 H) (𝓖 : GhostRules 𝓤 H) (𝓡 : Running 𝓤 H 𝓜)
-    (env : Routines) → env #table·fill ≡ fill-def.routine
-    → Triple 𝓤 (tables 𝓤 H 𝓜 𝓡 env .C #table·fill) (Fill 𝓤 H (𝓖 .A) (𝓜 .mem) (𝓡 .run))
-fill-known 𝓤 H 𝓜 𝓖 𝓡 env e =
-    cited 𝓤 H (Fill 𝓤 H (𝓖 .A) (𝓜 .mem) (𝓡 .run)) 𝓜 𝓡 env #table·fill fill-def.routine e (fill-thm.met 𝓤 H 𝓜 𝓖 𝓡)
+pub fill-known : {M : Type 1} → Known M Fill #table·fill fill-def.routine
+fill-known = knows Fill #table·fill fill-def.routine fill-thm.met
 
 abbrev pub Filled : RefT (List Peak) → List ℕ → ℕ → ℕ → List Peak → Type 0
 Filled t s n count ts =

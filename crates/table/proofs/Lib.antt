@@ -1,5 +1,8 @@
 pub mod Laws  -- records in the work area, and a row filled with them
 pub mod Locals  -- the locals of a walked function
+pub mod Frame  -- all of them at the start, and at the end
+pub mod Parameters  -- the parameters of a walked function
+pub mod Walks  -- a walk taken to the function's contract
 pub mod Upto  -- a loop over a row that counts up
 pub mod LentAgain  -- a slice lent again, and had back
 pub mod FillCall  -- the call of `fill` as a step

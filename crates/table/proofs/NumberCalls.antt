@@ -13,12 +13,10 @@ use mir.Syntax.{Opd as Operand, Place, Body, w64, seq, call}
 use mir.Val.{Val, vint}
 use base.Logic.{SProp, ent, emp, snd∗, exE, id⊢}
 use prog.Memory.{Memory}
-use prog.Model.{Model}
-use prog.Routine.{Routine, Env as Routines}
+use prog.Routine.{Routine}
 use prog.Wp.{Heap, Env, Calls, Loops}
 use ghost.Atoms.{Atoms, sem}
 use contract.Monad.{Fun, fact}
-use contract.Running.{Running, GhostRules, tables}
 use types.Kit.{Given, Item, raw, Post, Seq, runs, lands, _$_, _∵_, !, qed}
 use types.Kit.{join, fjoin, frame, done}
 use types.Run.{Opds}
@@ -28,14 +26,14 @@ use denote.Plain.{uint-makes}
 use denote.Builtin.{usize}
 use denote.Steps.{owned, nothing}
 use denote.Enum.Laws as EL
-use denote.Triple.Statement.{Contract, Triple}
+use denote.Triple.Statement.{Triple}
 use denote.Triple.Clauses.{ensured, lasts}
 use denote.Triple.Spec.{tripleOf}
-use denote.Triple.Table.{cited}
 use Rattle.record.specs.declared.Handed.{Handed}
 use Rattle.record.proofs.Handed as S
 use Rattle.record.proofs.Handed.Laws as S′
 use Rattle.table.specs.Inner.{countIn, cellsRead}
+use Rattle.table.proofs.Walks.{Promise, Known, knows}
 use Rattle.table.proofs.Locals.{calls-number}
 use Rattle.table.proofs.cells_of as cells-of
 use Rattle.table.proofs.cells_of.Symbol as cells-of-def
@@ -46,26 +44,17 @@ use Rattle.table.proofs.count_of.Symbol as count-of-def
 use Rattle.table.proofs.count_of.Symbol.{name as #table·count-of}
 use Rattle.table.proofs.count_of.Met as count-of-thm
 
-module _ {M : Type 1} (𝓤 : URA M) (H : Heap 𝓤) (A : Atoms 𝓤) (mem : Memory → SProp 𝓤) (run : Routine → Fun 𝓤) where
-  abbrev pub CellsOf : Contract 𝓤
-  CellsOf = tripleOf 𝓤 H A cells-of.signature (cells-of.spec 𝓤 H A mem run)
+abbrev pub CellsOf : {M : Type 1} → Promise M
+CellsOf 𝓤 H A mem run = tripleOf 𝓤 H A cells-of.signature (cells-of.spec 𝓤 H A mem run)
 
-  abbrev pub CountOf : Contract 𝓤
-  CountOf = tripleOf 𝓤 H A count-of.signature (count-of.spec 𝓤 H A mem run)
+pub cells-known : {M : Type 1} → Known M CellsOf #table·cells-of cells-of-def.routine
+cells-known = knows CellsOf #table·cells-of cells-of-def.routine cells-of-thm.met
 
-pub cells-known : {M : Type 1} (𝓤 : URA M) (H : Heap 𝓤) (𝓜 : Model 𝓤 H) (𝓖 : GhostRules 𝓤 H) (𝓡 : Running 𝓤 H 𝓜)
-    (env : Routines) → env #table·cells-of ≡ cells-of-def.routine
-    → Triple 𝓤 (tables 𝓤 H 𝓜 𝓡 env .C #table·cells-of) (CellsOf 𝓤 H (𝓖 .A) (𝓜 .mem) (𝓡 .run))
-cells-known 𝓤 H 𝓜 𝓖 𝓡 env e =
-    cited 𝓤 H (CellsOf 𝓤 H (𝓖 .A) (𝓜 .mem) (𝓡 .run)) 𝓜 𝓡 env #table·cells-of cells-of-def.routine e
-    (cells-of-thm.met 𝓤 H 𝓜 𝓖 𝓡)
+abbrev pub CountOf : {M : Type 1} → Promise M
+CountOf 𝓤 H A mem run = tripleOf 𝓤 H A count-of.signature (count-of.spec 𝓤 H A mem run)
 
-pub count-known : {M : Type 1} (𝓤 : URA M) (H : Heap 𝓤) (𝓜 : Model 𝓤 H) (𝓖 : GhostRules 𝓤 H) (𝓡 : Running 𝓤 H 𝓜)
-    (env : Routines) → env #table·count-of ≡ count-of-def.routine
-    → Triple 𝓤 (tables 𝓤 H 𝓜 𝓡 env .C #table·count-of) (CountOf 𝓤 H (𝓖 .A) (𝓜 .mem) (𝓡 .run))
-count-known 𝓤 H 𝓜 𝓖 𝓡 env e =
-    cited 𝓤 H (CountOf 𝓤 H (𝓖 .A) (𝓜 .mem) (𝓡 .run)) 𝓜 𝓡 env #table·count-of count-of-def.routine e
-    (count-of-thm.met 𝓤 H 𝓜 𝓖 𝓡)
+pub count-known : {M : Type 1} → Known M CountOf #table·count-of count-of-def.routine
+count-known = knows CountOf #table·count-of count-of-def.routine count-of-thm.met
 
 module _ {M : Type 1} (𝓤 : URA M) (H : Heap 𝓤) (A : Atoms 𝓤) (W : Given 𝓤 H A) (mem : Memory → SProp 𝓤)
     (run : Routine → Fun 𝓤) (r : Handed) (u : Val) (is : Is S.the-row r (u ∷ [])) where

@@ -16,40 +16,39 @@ use base.Logic.{SProp, ent, emp, via, fst∗}
 use base.Fml.{Lft, GName, Share, Fml, ftrue, flft}
 use prog.Memory.{Memory}
 use prog.Routine.{Routine}
-use prog.Wp.{Heap, Calls, Loops, WpFn, Tables}
+use prog.Wp.{Heap, Calls, Loops, WpFn}
 use ghost.Atoms.{Atoms}
 use contract.Monad.{Fun}
-use contract.Running.{givenOf, tables, tablesOf}
-use types.Kit.{Given, ‵, _⊛_, ⋆, _$_, _∵_, !, qed, by, move, drop}
+use contract.Running.{givenOf, tablesOf}
+use types.Kit.{Given, ‵, _⊛_, ⋆, _$_, _∵_, !, qed, by, move, drop, keep}
 use types.Kit.{split, join, fsplit, fjoin, suffices, frame, done}
 use types.Run.{look, init, stop, hop, fld, from, load, addr, of-opd, and-then, no-more, assigns, land, returns, enter}
-use types.Run.{alloc1, alloc0, params1, pass1, pass0, free0}
+use types.Run.{params1, pass1, pass0, free0}
 use types.Part.{agg, whole, sub, look-in}
-use sound.WpLaws.{FmC, fmOf, WpFn-mono}
+use sound.WpLaws.{FmC}
 use denote.RattleType.{RattleType, owns}
 use denote.Laws.{Is}
-use denote.Plain.{uint-makes, uint-vals, uint-tells}
 use denote.Builtin.{u8, u32, i32}
 use denote.Ref.{RefT}
 use denote.Signature.{plain}
-use denote.Slice.{sliceVal, MutSlice, ShrSlice, Room, finally, slice-vals, mut-slice-tells, shr-slice-tells}
+use denote.Slice.{sliceVal, MutSlice, ShrSlice, Room, finally}
 use denote.Steps.{owned, nothing}
 use denote.Enum.Laws as EL
 use denote.Triple.Statement.{Triple}
 use denote.Triple.Entry.{onEntry}
-use denote.Triple.Spec.{Meets, tripleOf}
-use denote.Triple.Table.{entered}
-use denote.Triple.Walked.{says, Stays, stay-none, stay-slice, gave-slice, stay-none-slice, walkOf, goes-none}
-use denote.Triple.Walked.{goes-slice}
-use denote.Triple.Walked.{goes-gave-slice, goes-none-slice, Walks, ends-at, walked, walk-meets}
+use denote.Triple.Walked.{says, Stays, walkOf}
+use denote.Triple.Walked.{ends-at}
 use denote.Exit.{yes as kept}
 use Rattle.record.specs.declared.Peak.{Peak}
 use Rattle.record.proofs.Peak as T
 use Rattle.record.specs.declared.Handed.{Handed}
 use Rattle.record.proofs.Handed as S
 use Rattle.record.proofs.Handed.Laws as S′
+use Rattle.table.proofs.Walks.{closes}
+use Rattle.table.proofs.Parameters.{Parameter, mutable, mutable-kept, none, number, shared, stays}
 use Rattle.table.proofs.FillCall.{Fill, Filled, fill-known, calls-fill}
-use Rattle.table.proofs.Locals.{localAt, copied, release}
+use Rattle.table.proofs.Locals.{localAt, copied}
+use Rattle.table.proofs.Frame.{allocated, releases}
 use Rattle.table.proofs.fill.Symbol.{name as #table·fill}
 use Rattle.table.specs.Inner.{countIn, cellsRead}
 use Rattle.table.proofs.NumberCalls.{CellsOf, CountOf, cells-known, count-known, calls-cells, calls-count}
@@ -66,17 +65,11 @@ use Rattle.list.proofs.list.Code as code
 abbrev R : RattleType
 R = T.the-row
 
+abbrev parameters : List (Parameter 3)
+parameters = number w32 ∷ shared 0 tt i32 ∷ number w32 ∷ mutable-kept 1 tt u8 ∷ mutable 2 tt R ∷ []
+
 abbrev stayed : Stays (list.ended .signature .params) (list.ended .kept)
-stayed = (
-  stay-none (λ _. u32) kept,
-  (
-    stay-none-slice (0 ∷ []) tt (plain (λ _. i32)) kept,
-    (
-      stay-none (λ _. u32) kept,
-      (stay-slice (1 ∷ []) tt (plain (λ _. u8)), (gave-slice (2 ∷ []) tt (plain (λ _. R)), tt)),
-    ),
-  ),
-)
+stayed = stays parameters
 
 abbrev loc : ℕ → ℕ → ℕ
 loc = localAt 17
@@ -128,20 +121,17 @@ module _ {M : Type 1} (𝓤 : URA M) (H : Heap 𝓤) (A : Atoms 𝓤) (W : Given
   -- ---- the end
   exits : (r : Handed) (u : Val) → Is S.the-row r (u ∷ []) → (zs : List ℕ) → Left rows (h .now) threshold ys room r zs
       → (ts : List Peak) → Filled t zs (n r) (countIn r) ts
-      → ent 𝓤 (⋆ 𝓤 H A (‵ (flft κ₀ q₀) ∷ ‵ (flft κ₁ q₁) ∷ ‵ (flft κ₂ q₂) ∷ ‵ Hts ∷ ‵ (Work zs)
+      → ent 𝓤 (⋆ 𝓤 H A (‵ (flft κ₀ q₀) ∷ ‵ (flft κ₁ q₁) ∷ ‵ (flft κ₂ q₂) ∷ ‵ (Work zs)
       ∷ ‵ (finally R (t .name) ts) ∷ [])) (Post u)
   exits r u is zs left ts filled =
-      qed W (‵ (flft κ₀ q₀) ∷ ‵ (flft κ₁ q₁) ∷ ‵ (flft κ₂ q₂) ∷ ‵ Hts ∷ ‵ (Work zs)
+      qed W (‵ (flft κ₀ q₀) ∷ ‵ (flft κ₁ q₁) ∷ ‵ (flft κ₂ q₂) ∷ ‵ (Work zs)
       ∷ ‵ (finally R (t .name) ts) ∷ []) ∵
       suffices ! _ (ends-at 𝓤 H A list.ended stayed (list.clauses 𝓤 H A mem run) W bound u r
       (tt, (tt, (tt, (zs, (ts, tt))))) (tt, (tt, (tt, (left .0, (filled .0, tt)))))) $
       says ! (flat-hands (t .now) r (λ m e. refl) (left .1) (filled .1)) $
       nothing ! $ move ! (3 ∷ 0 ∷ []) $ join ! $ move ! (2 ∷ 0 ∷ []) $ join ! $ move ! (1 ∷ 0 ∷ []) $ join ! $ frame ! $
-      -- [heights; work; the row's last list]
-      nothing ! $ move ! (3 ∷ 0 ∷ []) $ fjoin ! $ move ! (2 ∷ 0 ∷ []) $ fjoin ! $
-      owned ! u32 (Is u32) (uint-makes 𝓤 H A W w32) threshold _ (refl, threshold-fits) $ fjoin ! $
-      move ! (1 ∷ 0 ∷ []) $ fjoin ! $
-      owned ! u32 (Is u32) (uint-makes 𝓤 H A W w32) rows _ (refl, rows-fits) $ fjoin ! $
+      -- [work; the row's last list]
+      nothing ! $ move ! (2 ∷ 0 ∷ []) $ fjoin ! $ move ! (1 ∷ 0 ∷ []) $ fjoin ! $ none ! $ none ! $ none ! $
       owned ! S.the-row (Is S.the-row) (EL.makes S.the-type S′.the-plain 𝓤 H A) r _ is $ move ! (1 ∷ 0 ∷ []) $ done !
 
   module _ (C : Calls 𝓤 H) (Λ : Loops 𝓤 H) (fm : FmC 𝓤 H (W .laws) C)
@@ -156,9 +146,7 @@ module _ {M : Type 1} (𝓤 : URA M) (H : Heap 𝓤) (A : Atoms 𝓤) (W : Given
         ∷ ‵ (owns (u32 ∷ ShrSlice (named 0) κ₀ i32 ∷ u32 ∷ MutSlice (named 1) κ₁ u8 ∷ MutSlice (named 2) κ₂ R ∷ [])
         a vals) ∷ []) ∵
         enter ! C Λ code.function (vint w32 rows ∷ hv ∷ vint w32 threshold ∷ wv ∷ tv ∷ []) _ $
-        alloc1 ! (λ l₀. alloc1 ! (λ l₁. alloc1 ! (λ l₂. alloc1 ! (λ l₃. alloc1 ! (λ l₄. alloc1 ! (λ l₅. alloc1 ! (λ l₆.
-        alloc1 ! (λ l₇. alloc1 ! (λ l₈. alloc1 ! (λ l₉. alloc1 ! (λ l₁₀. alloc1 ! (λ l₁₁. alloc1 ! (λ l₁₂.
-        alloc1 ! (λ l₁₃. alloc1 ! (λ l₁₄. alloc1 ! (λ l₁₅. alloc1 ! (λ l₁₆. alloc1 ! (λ l₁₇. alloc0 ! $ params1 ! $
+        allocated ! (λ l. params1 ! $
         pass1 ! (init ! (loc 0 1) refl (tt, record { fits = rows-fits })) $
         pass1 ! (init ! (loc 0 2) refl (tt, (tt, (record { fits = h-room .0 }, tt)))) $
         pass1 ! (init ! (loc 0 3) refl (tt, record { fits = threshold-fits })) $
@@ -214,63 +202,21 @@ module _ {M : Type 1} (𝓤 : URA M) (H : Heap 𝓤) (A : Atoms 𝓤) (W : Given
         assigns ! (of-opd ! (copied ! (loc 6 7) refl)) (from ! (stop !))
         (init ! (loc 6 0) refl (EL.lawful S.the-type S′.the-laws 𝓤 H A W tt .typed r _ is .0)) $
         returns ! (look ! (loc 6 0) refl) $
-        release ! (loc 6 0) refl refl $ release ! (loc 6 1) refl refl $ release ! (loc 6 2) refl refl $
-        release ! (loc 6 3) refl refl $ release ! (loc 6 4) refl refl $ release ! (loc 6 5) refl refl $
-        release ! (loc 6 6) refl refl $ release ! (loc 6 7) refl refl $ release ! (loc 6 8) refl refl $
-        release ! (loc 6 9) refl refl $ release ! (loc 6 10) refl refl $ release ! (loc 6 11) refl refl $
-        release ! (loc 6 12) refl refl $ release ! (loc 6 13) refl refl $ release ! (loc 6 14) refl refl $
-        release ! (loc 6 15) refl refl $ release ! (loc 6 16) refl refl $ release ! (loc 6 17) refl refl $ free0 ! $
-        move ! (5 ∷ 3 ∷ 1 ∷ 4 ∷ 2 ∷ 0 ∷ []) $
-        by ! (exits r u is zs left ts filled)))))))))))))))))))))))
-
-module _ {M : Type 1} (𝓤 : URA M) (H : Heap 𝓤) (A : Atoms 𝓤) (W : Given 𝓤 H A) (mem : Memory → SProp 𝓤)
-    (run : Routine → Fun 𝓤) (𝓣 : Tables 𝓤 H) (known-flat : Triple 𝓤 (𝓣 .C #list·flat) (FlatCall 𝓤 H A mem run))
-    (known-cells : Triple 𝓤 (𝓣 .C #table·cells-of) (CellsOf 𝓤 H A mem run))
-    (known-count : Triple 𝓤 (𝓣 .C #table·count-of) (CountOf 𝓤 H A mem run))
-    (known-fill : Triple 𝓤 (𝓣 .C #table·fill) (Fill 𝓤 H A mem run)) where
-  list-walks : Walks 𝓤 H A list.ended stayed (WpFn 𝓤 H (𝓣 .C) (𝓣 .Λ) code.function) (list.clauses 𝓤 H A mem run)
-  list-walks =
-      walked 𝓤 H A list.ended stayed (list.clauses 𝓤 H A mem run) (WpFn 𝓤 H (𝓣 .C) (𝓣 .Λ) code.function)
-      (λ κs. (uint-vals w32, (slice-vals, (uint-vals w32, (slice-vals, (slice-vals, tt))))))
-      (λ κs. (
-        uint-tells w32,
-        (
-          shr-slice-tells (named 0) (κs .0) i32,
-          (
-            uint-tells w32,
-            (mut-slice-tells (named 1) (κs .1 .0) u8, (mut-slice-tells (named 2) (κs .1 .1 .0) R, tt)),
-          ),
-        ),
-      ))
-      (λ κs qs bounds a g are. via 𝓤 _ (fst∗ 𝓤 _ (emp 𝓤))
-      (walk 𝓤 H A W mem run (κs .0) (κs .1 .0) (κs .1 .1 .0) (qs .0) (qs .1 .0) (qs .1 .1 .0) (a .0) (a .1 .1 .0)
-      (a .1 .0)
-      (a .1 .1 .1 .0 .ptr .0) (a .1 .1 .1 .0 .ptr .1) (a .1 .1 .1 .0 .name) (a .1 .1 .1 .0 .now) (a .1 .1 .1 .1 .0)
-      (are .0 .1) (are .1 .1 .0 .1) (are .1 .0 .0 .1) (are .1 .1 .1 .0 .0 .1) (are .1 .1 .1 .1 .0 .0 .1)
-      (𝓣 .C) (𝓣 .Λ) (fmOf 𝓤 H (W .laws) 𝓣) known-flat known-cells known-count known-fill))
-
-  list-meets : Meets 𝓤 H A list.signature (WpFn 𝓤 H (𝓣 .C) (𝓣 .Λ) code.function) (list.spec 𝓤 H A mem run)
-  list-meets =
-      walk-meets 𝓤 H A list.ended stayed W (
-        goes-none 𝓤 H A W 3 (λ _. u32) kept (λ κs x f. refl),
-        (
-          goes-none-slice 𝓤 H A W 3 (0 ∷ []) tt (plain (λ _. i32)) kept,
-          (
-            goes-none 𝓤 H A W 3 (λ _. u32) kept (λ κs x f. refl),
-            (goes-slice 𝓤 H A W 3 1 tt (plain (λ _. u8)), (goes-gave-slice 𝓤 H A W 3 2 tt (plain (λ _. R)), tt)),
-          ),
-        ),
-      )
-      (list.clauses 𝓤 H A mem run) (WpFn 𝓤 H (𝓣 .C) (𝓣 .Λ) code.function)
-      (WpFn-mono 𝓤 H (W .laws) 𝓣 code.function) list-walks
+        releases ! (loc 6 0) 18 refl $ free0 ! $
+        keep ! (5 ∷ 3 ∷ 1 ∷ 2 ∷ 0 ∷ []) $
+        by ! (exits r u is zs left ts filled))))))
 
 pub list-spec : {M : Type 1} → stated.statement M
 unfolding code.routine tablesOf
 list-spec 𝓤 H 𝓜 𝓖 𝓡 =
-    entered 𝓤 H (tripleOf 𝓤 H (𝓖 .A) list.signature (list.spec 𝓤 H (𝓖 .A) (𝓜 .mem) (𝓡 .run)))
-    (tables 𝓤 H 𝓜 𝓡 code.env .C) (tables 𝓤 H 𝓜 𝓡 code.env .Λ) #list·list code.function (code.unfolded 𝓤 H 𝓜 𝓡)
-    (list-meets 𝓤 H (𝓖 .A) (givenOf 𝓤 H 𝓜 𝓖) (𝓜 .mem) (𝓡 .run) (tablesOf 𝓤 H 𝓜 (tables 𝓤 H 𝓜 𝓡 code.env))
+    closes 𝓤 H 𝓜 𝓖 𝓡 parameters (plain (λ _. S.the-row)) (list.clauses 𝓤 H (𝓖 .A) (𝓜 .mem) (𝓡 .run))
+    code.env #list·list code.function (code.unfolded 𝓤 H 𝓜 𝓡)
+    (λ fm κs qs a g are. via 𝓤 _ (fst∗ 𝓤 _ (emp 𝓤))
+    (walk 𝓤 H (𝓖 .A) (givenOf 𝓤 H 𝓜 𝓖) (𝓜 .mem) (𝓡 .run) (κs .0) (κs .1 .0) (κs .1 .1 .0) (qs .0) (qs .1 .0)
+    (qs .1 .1 .0) (a .0) (a .1 .1 .0) (a .1 .0) (a .1 .1 .1 .0 .ptr .0) (a .1 .1 .1 .0 .ptr .1) (a .1 .1 .1 .0 .name)
+    (a .1 .1 .1 .0 .now) (a .1 .1 .1 .1 .0) (are .0 .1) (are .1 .1 .0 .1) (are .1 .0 .0 .1) (are .1 .1 .1 .0 .0 .1)
+    (are .1 .1 .1 .1 .0 .0 .1) _ _ fm
     (flat-known 𝓤 H 𝓜 𝓖 𝓡 code.env code.calls-list·flat)
     (cells-known 𝓤 H 𝓜 𝓖 𝓡 code.env code.calls-table·cells-of)
     (count-known 𝓤 H 𝓜 𝓖 𝓡 code.env code.calls-table·count-of)
-    (fill-known 𝓤 H 𝓜 𝓖 𝓡 code.env code.calls-table·fill))
+    (fill-known 𝓤 H 𝓜 𝓖 𝓡 code.env code.calls-table·fill)))

@@ -16,35 +16,36 @@ use base.Logic.{SProp, ent, emp, via, fst∗}
 use base.Fml.{Lft, GName, Share, Fml, ftrue, fat, flft}
 use prog.Memory.{Memory}
 use prog.Routine.{Routine}
-use prog.Wp.{Heap, Calls, Loops, WpFn, Tables}
+use prog.Wp.{Heap, Calls, Loops, WpFn}
 use ghost.Atoms.{Atoms}
 use contract.Monad.{Fun}
-use contract.Running.{givenOf, tables, tablesOf}
-use types.Kit.{Given, ‵, _⊛_, ⋆, _$_, _∵_, !, qed, by, move, drop}
+use contract.Running.{givenOf, tablesOf}
+use types.Kit.{Given, ‵, _⊛_, ⋆, _$_, _∵_, !, qed, by, move, drop, keep}
 use types.Kit.{split, join, rewrite, fsplit, fjoin, suffices, frame, done}
 use types.Run.{look, init, stop, hop, fld, from, load, addr, of-opd, and-then, no-more, assigns, land, returns, enter}
-use types.Run.{alloc1, alloc0, params1, pass1, pass0, free0}
+use types.Run.{params1, pass1, pass0, free0}
 use types.Part.{agg, whole, sub, look-in}
-use sound.WpLaws.{FmC, fmOf, WpFn-mono}
+use sound.WpLaws.{FmC}
 use denote.RattleType.{RattleType, owns}
 use denote.Laws.{Is}
 use denote.Builtin.{u8, i32}
 use denote.Ref.{RefT}
 use denote.Signature.{plain}
-use denote.Slice.{sliceVal, MutSlice, ShrSlice, Room, finally, slice-vals, mut-slice-tells, shr-slice-tells}
+use denote.Slice.{sliceVal, MutSlice, ShrSlice, Room, finally}
 use denote.Steps.{only, owned, nothing}
 use denote.Struct.Laws as LL
 use denote.Triple.Statement.{Triple}
 use denote.Triple.Entry.{onEntry}
-use denote.Triple.Spec.{Meets, tripleOf}
-use denote.Triple.Table.{entered}
-use denote.Triple.Walked.{says, Stays, stay-none, stay-none-slice, stay-slice, gave-slice, walkOf, goes-none}
-use denote.Triple.Walked.{goes-none-slice, goes-slice, goes-gave-slice, Walks, ends-at, walked, walk-meets}
+use denote.Triple.Walked.{says, Stays, walkOf}
+use denote.Triple.Walked.{ends-at}
 use denote.Exit.{yes as kept}
 use Rattle.record.specs.declared.Peak.{Peak}
 use Rattle.record.proofs.Peak as T
+use Rattle.table.proofs.Walks.{closes}
+use Rattle.table.proofs.Parameters.{Parameter, mutable, mutable-kept, none, shared, stays}
 use Rattle.table.proofs.FillCall.{Fill, Filled, fill-known, calls-fill}
-use Rattle.table.proofs.Locals.{localAt, copied, release}
+use Rattle.table.proofs.Locals.{localAt, copied}
+use Rattle.table.proofs.Frame.{allocated, releases}
 use Rattle.table.proofs.fill.Symbol.{name as #table·fill}
 use Rattle.table.specs.Inner.{countIn, cellsRead}
 use Rattle.table.proofs.NumberCalls.{CellsOf, CountOf, cells-known, count-known, calls-cells, calls-count}
@@ -55,10 +56,10 @@ use Rattle.run.specs.declared.Step.{Step}
 use Rattle.run.specs.Promises.{heldOf}
 use Rattle.run.proofs.column.Proof.CallsFlat.{FlatCall, flat-known, Left, calls-flat}
 use Rattle.run.proofs.Rows.{column-fillable, column-filled}
-use Rattle.run.proofs.Values.{runVal, stepVal, step-is, run-is, handed-is, run-typed, step-typed, handed-typed}
+use Rattle.run.proofs.Values.{run-by-value, runVal, stepVal, step-is, run-is, handed-is, run-typed, step-typed}
+use Rattle.run.proofs.Values.{handed-typed}
 use Rattle.run.proofs.HeldCall.{HeldCells, held-known, calls-held}
 use Rattle.run.proofs.Run as N
-use Rattle.run.proofs.Run.Laws as N′
 use Rattle.run.proofs.Step as U
 use Rattle.run.proofs.Step.Laws as U′
 use Rattle.run.proofs.column_flat.Symbol.{name as #run·column-flat}
@@ -71,17 +72,11 @@ use Rattle.run.proofs.column.Code as code
 abbrev R : RattleType
 R = T.the-row
 
+abbrev parameters : List (Parameter 4)
+parameters = run-by-value ∷ shared 0 tt i32 ∷ mutable 1 tt i32 ∷ mutable-kept 2 tt u8 ∷ mutable 3 tt R ∷ []
+
 abbrev stayed : Stays (columns.ended .signature .params) (columns.ended .kept)
-stayed = (
-  stay-none (λ _. N.the-row) kept,
-  (
-    stay-none-slice (0 ∷ []) tt (plain (λ _. i32)) kept,
-    (
-      gave-slice (1 ∷ []) tt (plain (λ _. i32)),
-      (stay-slice (2 ∷ []) tt (plain (λ _. u8)), (gave-slice (3 ∷ []) tt (plain (λ _. R)), tt)),
-    ),
-  ),
-)
+stayed = stays parameters
 
 abbrev loc : ℕ → ℕ → ℕ
 loc = localAt 21
@@ -137,20 +132,19 @@ module _ {M : Type 1} (𝓤 : URA M) (H : Heap 𝓤) (A : Atoms 𝓤) (W : Given
   -- ---- the end
   exits : (r : Step) (u : Val) → Is U.the-row r (u ∷ []) → (gs : List ℤ) (zs : List ℕ)
       → Left ru (c .now) (g .now) ys room r gs zs → (ts : List Peak) → Filled t zs (n r) (countIn (r .handed)) ts
-      → ent 𝓤 (⋆ 𝓤 H A (‵ (flft κ₀ q₀) ∷ ‵ (flft κ₁ q₁) ∷ ‵ (flft κ₂ q₂) ∷ ‵ (flft κ₃ q₃) ∷ ‵ Offered
+      → ent 𝓤 (⋆ 𝓤 H A (‵ (flft κ₀ q₀) ∷ ‵ (flft κ₁ q₁) ∷ ‵ (flft κ₂ q₂) ∷ ‵ (flft κ₃ q₃)
       ∷ ‵ (finally i32 (g .name) gs) ∷ ‵ (Work zs) ∷ ‵ (finally R (t .name) ts) ∷ [])) (Post u)
   exits r u is gs zs left ts filled =
-      qed W (‵ (flft κ₀ q₀) ∷ ‵ (flft κ₁ q₁) ∷ ‵ (flft κ₂ q₂) ∷ ‵ (flft κ₃ q₃) ∷ ‵ Offered
+      qed W (‵ (flft κ₀ q₀) ∷ ‵ (flft κ₁ q₁) ∷ ‵ (flft κ₂ q₂) ∷ ‵ (flft κ₃ q₃)
       ∷ ‵ (finally i32 (g .name) gs) ∷ ‵ (Work zs) ∷ ‵ (finally R (t .name) ts) ∷ []) ∵
       suffices ! _ (ends-at 𝓤 H A columns.ended stayed (columns.clauses 𝓤 H A mem run) W bound u r
       (tt, (tt, (gs, (zs, (ts, tt))))) (tt, (tt, (left .0, (left .1, (filled .0, tt)))))) $
       says ! (column-filled (t .now) (left .2) (filled .1)) $
       nothing ! $ move ! (4 ∷ 0 ∷ []) $ join ! $ move ! (3 ∷ 0 ∷ []) $ join ! $ move ! (2 ∷ 0 ∷ []) $ join ! $
       move ! (1 ∷ 0 ∷ []) $ join ! $ frame ! $
-      -- [the column; the grid's last list; work; the row's last list]
-      nothing ! $ move ! (4 ∷ 0 ∷ []) $ fjoin ! $ move ! (3 ∷ 0 ∷ []) $ fjoin ! $ move ! (2 ∷ 0 ∷ []) $ fjoin ! $
-      move ! (1 ∷ 0 ∷ []) $ fjoin ! $
-      owned ! N.the-row (Is N.the-row) (LL.makes N.the-type N′.the-plain 𝓤 H A) ru _ ru-is $ fjoin ! $
+      -- [the grid's last list; work; the row's last list]
+      nothing ! $ move ! (3 ∷ 0 ∷ []) $ fjoin ! $ move ! (2 ∷ 0 ∷ []) $ fjoin ! $ move ! (1 ∷ 0 ∷ []) $ fjoin ! $
+      none ! $ none ! $
       owned ! U.the-row (Is U.the-row) (LL.makes U.the-type U′.the-plain 𝓤 H A) r _ is $ move ! (1 ∷ 0 ∷ []) $ done !
 
   module _ (C : Calls 𝓤 H) (Λ : Loops 𝓤 H) (fm : FmC 𝓤 H (W .laws) C)
@@ -166,10 +160,7 @@ module _ {M : Type 1} (𝓤 : URA M) (H : Heap 𝓤) (A : Atoms 𝓤) (W : Given
         ∷ ‵ (owns (N.the-row ∷ ShrSlice (named 0) κ₀ i32 ∷ MutSlice (named 1) κ₁ i32 ∷ MutSlice (named 2) κ₂ u8
         ∷ MutSlice (named 3) κ₃ R ∷ []) a vals) ∷ []) ∵
         enter ! C Λ code.function (runVal ru ∷ cv ∷ gv ∷ wv ∷ tv ∷ []) _ $
-        alloc1 ! (λ l₀. alloc1 ! (λ l₁. alloc1 ! (λ l₂. alloc1 ! (λ l₃. alloc1 ! (λ l₄. alloc1 ! (λ l₅. alloc1 ! (λ l₆.
-        alloc1 ! (λ l₇. alloc1 ! (λ l₈. alloc1 ! (λ l₉. alloc1 ! (λ l₁₀. alloc1 ! (λ l₁₁. alloc1 ! (λ l₁₂.
-        alloc1 ! (λ l₁₃. alloc1 ! (λ l₁₄. alloc1 ! (λ l₁₅. alloc1 ! (λ l₁₆. alloc1 ! (λ l₁₇. alloc1 ! (λ l₁₈.
-        alloc1 ! (λ l₁₉. alloc1 ! (λ l₂₀. alloc1 ! (λ l₂₁. alloc0 ! $ params1 ! $
+        allocated ! (λ l. params1 ! $
         pass1 ! (init ! (loc 0 1) refl (run-typed 𝓤 H A W ru ru-is)) $
         pass1 ! (init ! (loc 0 2) refl (tt, (tt, (record { fits = c-room .0 }, tt)))) $
         pass1 ! (init ! (loc 0 3) refl (tt, (tt, (record { fits = g-room .0 }, tt)))) $
@@ -200,7 +191,7 @@ module _ {M : Type 1} (𝓤 : URA M) (H : Heap 𝓤) (A : Atoms 𝓤) (W : Given
         (and-then ! (copied ! (loc 5 13) refl) (and-then ! (copied ! (loc 5 15) refl)
         (and-then ! (copied ! (loc 5 6) refl) (no-more !)))))) (λ r u is gs zs left.
         land ! (from ! (stop !)) (init ! (loc 8 7) refl (step-typed 𝓤 H A W r is)) $
-        rewrite ! (loc 8 7) (λ (y : Val). ‵ (fat fullShare U′.mir l₇ 0 y))
+        rewrite ! (loc 8 7) (λ (y : Val). ‵ (fat fullShare U′.mir (l 7) 0 y))
         (ap only (LL.tells U.the-type U′.the-laws r _ is)) refl $
         -- [the column; token 0; the grid's last list; token 1; work; token 2; token 3; the row; _21; …]
         assigns ! (of-opd ! (load ! (from ! (fld ! refl (stop !))) (look-in ! (loc 8 7) (sub ! 0 refl (whole !)))))
@@ -235,68 +226,22 @@ module _ {M : Type 1} (𝓤 : URA M) (H : Heap 𝓤) (A : Atoms 𝓤) (W : Given
         -- [the row's last list; token 3; work; token 2; the column; token 0; the grid's last list; token 1; _21; …]
         assigns ! (of-opd ! (copied ! (loc 8 7) refl)) (from ! (stop !))
         (init ! (loc 8 0) refl (step-typed 𝓤 H A W r (step-is r is))) $ returns ! (look ! (loc 8 0) refl) $
-        release ! (loc 8 0) refl refl $ release ! (loc 8 1) refl refl $ release ! (loc 8 2) refl refl $
-        release ! (loc 8 3) refl refl $ release ! (loc 8 4) refl refl $ release ! (loc 8 5) refl refl $
-        release ! (loc 8 6) refl refl $ release ! (loc 8 7) refl refl $ release ! (loc 8 8) refl refl $
-        release ! (loc 8 9) refl refl $ release ! (loc 8 10) refl refl $ release ! (loc 8 11) refl refl $
-        release ! (loc 8 12) refl refl $ release ! (loc 8 13) refl refl $ release ! (loc 8 14) refl refl $
-        release ! (loc 8 15) refl refl $ release ! (loc 8 16) refl refl $ release ! (loc 8 17) refl refl $
-        release ! (loc 8 18) refl refl $ release ! (loc 8 19) refl refl $ release ! (loc 8 20) refl refl $
-        release ! (loc 8 21) refl refl $ free0 ! $
-        move ! (5 ∷ 7 ∷ 3 ∷ 1 ∷ 4 ∷ 6 ∷ 2 ∷ 0 ∷ []) $
-        by ! (exits r (stepVal r) (step-is r is) gs zs left ts filled))))))))))))))))))))))))))))
-
-module _ {M : Type 1} (𝓤 : URA M) (H : Heap 𝓤) (A : Atoms 𝓤) (W : Given 𝓤 H A) (mem : Memory → SProp 𝓤)
-    (run : Routine → Fun 𝓤) (𝓣 : Tables 𝓤 H) (known-flat : Triple 𝓤 (𝓣 .C #run·column-flat) (FlatCall 𝓤 H A mem run))
-    (known-held : Triple 𝓤 (𝓣 .C #run·held-cells) (HeldCells 𝓤 H A mem run))
-    (known-cells : Triple 𝓤 (𝓣 .C #table·cells-of) (CellsOf 𝓤 H A mem run))
-    (known-count : Triple 𝓤 (𝓣 .C #table·count-of) (CountOf 𝓤 H A mem run))
-    (known-fill : Triple 𝓤 (𝓣 .C #table·fill) (Fill 𝓤 H A mem run)) where
-  column-walks : Walks 𝓤 H A columns.ended stayed (WpFn 𝓤 H (𝓣 .C) (𝓣 .Λ) code.function) (columns.clauses 𝓤 H A mem run)
-  column-walks =
-      walked 𝓤 H A columns.ended stayed (columns.clauses 𝓤 H A mem run) (WpFn 𝓤 H (𝓣 .C) (𝓣 .Λ) code.function)
-      (λ κs. (LL.vals N.the-type N′.the-laws, (slice-vals, (slice-vals, (slice-vals, (slice-vals, tt))))))
-      (λ κs. (
-        LL.tells N.the-type N′.the-laws,
-        (
-          shr-slice-tells (named 0) (κs .0) i32,
-          (
-            mut-slice-tells (named 1) (κs .1 .0) i32,
-            (mut-slice-tells (named 2) (κs .1 .1 .0) u8, (mut-slice-tells (named 3) (κs .1 .1 .1 .0) R, tt)),
-          ),
-        ),
-      ))
-      (λ κs qs bounds a g are. via 𝓤 _ (fst∗ 𝓤 _ (emp 𝓤))
-      (walk 𝓤 H A W mem run (κs .0) (κs .1 .0) (κs .1 .1 .0) (κs .1 .1 .1 .0) (qs .0) (qs .1 .0) (qs .1 .1 .0)
-      (qs .1 .1 .1 .0) (a .0) (a .1 .0) (a .1 .1 .0) (a .1 .1 .1 .0 .ptr .0) (a .1 .1 .1 .0 .ptr .1)
-      (a .1 .1 .1 .0 .name) (a .1 .1 .1 .0 .now) (a .1 .1 .1 .1 .0) (are .0) (are .1 .0 .0 .1) (are .1 .1 .0 .0 .1)
-      (are .1 .1 .1 .0 .0 .1) (are .1 .1 .1 .1 .0 .0 .1) (𝓣 .C) (𝓣 .Λ) (fmOf 𝓤 H (W .laws) 𝓣) known-flat known-held
-      known-cells known-count known-fill))
-
-  column-meets : Meets 𝓤 H A columns.signature (WpFn 𝓤 H (𝓣 .C) (𝓣 .Λ) code.function) (columns.spec 𝓤 H A mem run)
-  column-meets =
-      walk-meets 𝓤 H A columns.ended stayed W (
-        goes-none 𝓤 H A W 4 (λ _. N.the-row) kept (λ κs x f. refl),
-        (
-          goes-none-slice 𝓤 H A W 4 (0 ∷ []) tt (plain (λ _. i32)) kept,
-          (
-            goes-gave-slice 𝓤 H A W 4 1 tt (plain (λ _. i32)),
-            (goes-slice 𝓤 H A W 4 2 tt (plain (λ _. u8)), (goes-gave-slice 𝓤 H A W 4 3 tt (plain (λ _. R)), tt)),
-          ),
-        ),
-      )
-      (columns.clauses 𝓤 H A mem run) (WpFn 𝓤 H (𝓣 .C) (𝓣 .Λ) code.function)
-      (WpFn-mono 𝓤 H (W .laws) 𝓣 code.function) column-walks
+        releases ! (loc 8 0) 22 refl $ free0 ! $
+        keep ! (5 ∷ 7 ∷ 3 ∷ 1 ∷ 6 ∷ 2 ∷ 0 ∷ []) $
+        by ! (exits r (stepVal r) (step-is r is) gs zs left ts filled)))))))
 
 pub column-spec : {M : Type 1} → stated.statement M
 unfolding code.routine tablesOf
 column-spec 𝓤 H 𝓜 𝓖 𝓡 =
-    entered 𝓤 H (tripleOf 𝓤 H (𝓖 .A) columns.signature (columns.spec 𝓤 H (𝓖 .A) (𝓜 .mem) (𝓡 .run)))
-    (tables 𝓤 H 𝓜 𝓡 code.env .C) (tables 𝓤 H 𝓜 𝓡 code.env .Λ) #run·column code.function
-    (code.unfolded 𝓤 H 𝓜 𝓡)
-    (column-meets 𝓤 H (𝓖 .A) (givenOf 𝓤 H 𝓜 𝓖) (𝓜 .mem) (𝓡 .run) (tablesOf 𝓤 H 𝓜 (tables 𝓤 H 𝓜 𝓡 code.env))
+    closes 𝓤 H 𝓜 𝓖 𝓡 parameters (plain (λ _. U.the-row)) (columns.clauses 𝓤 H (𝓖 .A) (𝓜 .mem) (𝓡 .run))
+    code.env #run·column code.function (code.unfolded 𝓤 H 𝓜 𝓡)
+    (λ fm κs qs a g are. via 𝓤 _ (fst∗ 𝓤 _ (emp 𝓤))
+    (walk 𝓤 H (𝓖 .A) (givenOf 𝓤 H 𝓜 𝓖) (𝓜 .mem) (𝓡 .run) (κs .0) (κs .1 .0) (κs .1 .1 .0) (κs .1 .1 .1 .0) (qs .0)
+    (qs .1 .0) (qs .1 .1 .0) (qs .1 .1 .1 .0) (a .0) (a .1 .0) (a .1 .1 .0) (a .1 .1 .1 .0 .ptr .0)
+    (a .1 .1 .1 .0 .ptr .1) (a .1 .1 .1 .0 .name) (a .1 .1 .1 .0 .now) (a .1 .1 .1 .1 .0) (are .0) (are .1 .0 .0 .1)
+    (are .1 .1 .0 .0 .1) (are .1 .1 .1 .0 .0 .1) (are .1 .1 .1 .1 .0 .0 .1) _ _ fm
     (flat-known 𝓤 H 𝓜 𝓖 𝓡 code.env code.calls-run·column-flat)
     (held-known 𝓤 H 𝓜 𝓖 𝓡 code.env code.calls-run·records·held-cells)
     (cells-known 𝓤 H 𝓜 𝓖 𝓡 code.env code.calls-table·cells-of)
     (count-known 𝓤 H 𝓜 𝓖 𝓡 code.env code.calls-table·count-of)
-    (fill-known 𝓤 H 𝓜 𝓖 𝓡 code.env code.calls-table·fill))
+    (fill-known 𝓤 H 𝓜 𝓖 𝓡 code.env code.calls-table·fill)))

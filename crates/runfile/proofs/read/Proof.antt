@@ -1,5 +1,5 @@
 -- `runfile::read` meets its contract: a walk of its MIR, by hand, after the kit's example `writer`, `proofs/put`.
---     stayed              what the function still has of its parameters at the end
+--     parameters, stayed  the parameters, and what the function still has of them at the end
 --     exits               what is left at the end is what the contract promises
 --     walk                the MIR from the entry
 -- There is no branch, and each call is one step. `calls-grid` and `calls-take` copy the file, and give the heights and
@@ -23,33 +23,35 @@ use base.Logic.{SProp, ent, emp, via, fst∗}
 use base.Fml.{Lft, Share, Fml, ftrue, flft}
 use prog.Memory.{Memory}
 use prog.Routine.{Routine}
-use prog.Wp.{Heap, Calls, Loops, WpFn, Tables}
+use prog.Wp.{Heap, Calls, Loops, WpFn}
 use ghost.Atoms.{Atoms}
 use contract.Monad.{Fun}
-use contract.Running.{givenOf, tables, tablesOf}
+use contract.Running.{givenOf, tablesOf}
 use types.Kit.{Given, ‵, _⊛_, ⋆, _$_, _∵_, !, qed, by, move, drop, split, join, fsplit, fjoin, suffices, frame, done}
 use types.Run.{look, init, stop, hop, fld, from, load, addr, of-opd, and-then, no-more, assigns, land, returns, enter}
-use types.Run.{alloc1, alloc0, params1, pass1, pass0, free0}
+use types.Run.{params1, pass1, pass0, free0}
 use types.Part.{agg, whole, sub, look-in}
-use sound.WpLaws.{FmC, fmOf, WpFn-mono}
+use types.Kit.{keep}
+use sound.WpLaws.{FmC}
 use denote.RattleType.{RattleType, owns}
 use denote.Laws.{Is}
 use denote.Builtin.{u8, i32}
 use denote.Ref.{RefT}
 use denote.Signature.{plain}
-use denote.Slice.{MutSlice, ShrSlice, Room, finally, slice-vals, mut-slice-tells, shr-slice-tells}
+use denote.Slice.{MutSlice, ShrSlice, Room, finally}
 use denote.Steps.{owned, nothing}
 use denote.Enum.Laws as EL
 use denote.Triple.Statement.{Triple}
 use denote.Triple.Entry.{onEntry}
-use denote.Triple.Spec.{Meets, tripleOf}
-use denote.Triple.Table.{entered}
-use denote.Triple.Walked.{says, Stays, stay-none-slice, gave-slice, walkOf, goes-none-slice, goes-gave-slice}
-use denote.Triple.Walked.{Walks, ends-at, walked, walk-meets}
+use denote.Triple.Walked.{says, Stays, walkOf}
+use denote.Triple.Walked.{ends-at}
 use denote.Exit.{yes as kept}
 use Rattle.record.specs.declared.Peak.{Peak}
 use Rattle.record.proofs.Peak as T
-use Rattle.table.proofs.Locals.{localAt, copied, release}
+use Rattle.table.proofs.Walks.{closes}
+use Rattle.table.proofs.Parameters.{Parameter, mutable, none, shared, stays}
+use Rattle.table.proofs.Locals.{localAt, copied}
+use Rattle.table.proofs.Frame.{allocated, releases}
 use Rattle.layout.specs.declared.ReadBack.{ReadBack}
 use Rattle.layout.specs.Inner.{cellsToTake, recordsToTake}
 use Rattle.layout.proofs.ReadBack as S
@@ -78,11 +80,11 @@ use Rattle.runfile.proofs.read.Code as code
 abbrev R : RattleType
 R = T.the-row
 
+abbrev parameters : List (Parameter 3)
+parameters = shared 0 tt u8 ∷ mutable 1 tt i32 ∷ mutable 2 tt R ∷ []
+
 abbrev stayed : Stays (read.ended .signature .params) (read.ended .kept)
-stayed = (
-  stay-none-slice (0 ∷ []) tt (plain (λ _. u8)) kept,
-  (gave-slice (1 ∷ []) tt (plain (λ _. i32)), (gave-slice (2 ∷ []) tt (plain (λ _. R)), tt)),
-)
+stayed = stays parameters
 
 abbrev loc : ℕ → ℕ → ℕ
 loc = localAt 12
@@ -113,10 +115,10 @@ module _ {M : Type 1} (𝓤 : URA M) (H : Heap 𝓤) (A : Atoms 𝓤) (W : Given
   -- ---- the end
   exits : (r : ReadBack) (u : Val) → Is S.the-row r (u ∷ []) → (zs : List ℤ) → GridLeft (f .now) (h .now) room r zs
       → (ts : List Peak) → TakeLeft (t .now) (f .now) (cellsToTake r) (recordsToTake r) ts
-      → ent 𝓤 (⋆ 𝓤 H A (‵ (flft κ₀ q₀) ∷ ‵ (flft κ₁ q₁) ∷ ‵ (flft κ₂ q₂) ∷ ‵ File ∷ ‵ (finally i32 (h .name) zs)
+      → ent 𝓤 (⋆ 𝓤 H A (‵ (flft κ₀ q₀) ∷ ‵ (flft κ₁ q₁) ∷ ‵ (flft κ₂ q₂) ∷ ‵ (finally i32 (h .name) zs)
       ∷ ‵ (finally R (t .name) ts) ∷ [])) (Post u)
   exits r u is zs left ts filled =
-      qed W (‵ (flft κ₀ q₀) ∷ ‵ (flft κ₁ q₁) ∷ ‵ (flft κ₂ q₂) ∷ ‵ File ∷ ‵ (finally i32 (h .name) zs)
+      qed W (‵ (flft κ₀ q₀) ∷ ‵ (flft κ₁ q₁) ∷ ‵ (flft κ₂ q₂) ∷ ‵ (finally i32 (h .name) zs)
       ∷ ‵ (finally R (t .name) ts) ∷ []) ∵
       suffices ! _ (ends-at 𝓤 H A read.ended stayed (read.clauses 𝓤 H A mem run) W bound u r
       (tt, (zs, (ts, tt))) (tt, (left .0, (filled .0, tt)))) $
@@ -126,8 +128,8 @@ module _ {M : Type 1} (𝓤 : URA M) (H : Heap 𝓤) (A : Atoms 𝓤) (W : Given
         table = filled .1 ∙ taken (f .now) (length (h .now)) (t .now) r (left .1 .answer);
       }) $
       nothing ! $ move ! (3 ∷ 0 ∷ []) $ join ! $ move ! (2 ∷ 0 ∷ []) $ join ! $ move ! (1 ∷ 0 ∷ []) $ join ! $ frame ! $
-      -- [the file; the heights' last list; the table's]
-      nothing ! $ move ! (3 ∷ 0 ∷ []) $ fjoin ! $ move ! (2 ∷ 0 ∷ []) $ fjoin ! $ move ! (1 ∷ 0 ∷ []) $ fjoin ! $
+      -- [the heights' last list; the table's]
+      nothing ! $ move ! (2 ∷ 0 ∷ []) $ fjoin ! $ move ! (1 ∷ 0 ∷ []) $ fjoin ! $ none ! $
       owned ! S.the-row (Is S.the-row) (EL.makes S.the-type S′.the-plain 𝓤 H A) r _ is $ move ! (1 ∷ 0 ∷ []) $ done !
 
   module _ (C : Calls 𝓤 H) (Λ : Loops 𝓤 H) (fm : FmC 𝓤 H (W .laws) C)
@@ -142,9 +144,7 @@ module _ {M : Type 1} (𝓤 : URA M) (H : Heap 𝓤) (A : Atoms 𝓤) (W : Given
         ∷ ‵ (owns (ShrSlice (named 0) κ₀ u8 ∷ MutSlice (named 1) κ₁ i32 ∷ MutSlice (named 2) κ₂ R ∷ []) a vals)
         ∷ []) ∵
         enter ! C Λ code.function (valueOf f ∷ valueOf h ∷ valueOf t ∷ []) _ $
-        alloc1 ! (λ l₀. alloc1 ! (λ l₁. alloc1 ! (λ l₂. alloc1 ! (λ l₃. alloc1 ! (λ l₄. alloc1 ! (λ l₅. alloc1 ! (λ l₆.
-        alloc1 ! (λ l₇. alloc1 ! (λ l₈. alloc1 ! (λ l₉. alloc1 ! (λ l₁₀. alloc1 ! (λ l₁₁. alloc1 ! (λ l₁₂.
-        alloc0 ! $ params1 ! $
+        allocated ! (λ l. params1 ! $
         pass1 ! (init ! (loc 0 1) refl (tt, (tt, (record { fits = f-room .0 }, tt)))) $
         pass1 ! (init ! (loc 0 2) refl (tt, (tt, (record { fits = h-room .0 }, tt)))) $
         pass1 ! (init ! (loc 0 3) refl (tt, (tt, (record { fits = t-room .0 }, tt)))) $ pass0 ! $
@@ -192,48 +192,19 @@ module _ {M : Type 1} (𝓤 : URA M) (H : Heap 𝓤) (A : Atoms 𝓤) (W : Given
         assigns ! (of-opd ! (copied ! (loc 6 4) refl)) (from ! (stop !))
         (init ! (loc 6 0) refl (EL.lawful S.the-type S′.the-laws 𝓤 H A W tt .typed r _ is .0)) $
         returns ! (look ! (loc 6 0) refl) $
-        release ! (loc 6 0) refl refl $ release ! (loc 6 1) refl refl $ release ! (loc 6 2) refl refl $
-        release ! (loc 6 3) refl refl $ release ! (loc 6 4) refl refl $ release ! (loc 6 5) refl refl $
-        release ! (loc 6 6) refl refl $ release ! (loc 6 7) refl refl $ release ! (loc 6 8) refl refl $
-        release ! (loc 6 9) refl refl $ release ! (loc 6 10) refl refl $ release ! (loc 6 11) refl refl $
-        release ! (loc 6 12) refl refl $ free0 ! $
-        move ! (3 ∷ 5 ∷ 1 ∷ 2 ∷ 4 ∷ 0 ∷ []) $
-        by ! (exits r u is zs left ts filledFrom))))))))))))))))))
-
-module _ {M : Type 1} (𝓤 : URA M) (H : Heap 𝓤) (A : Atoms 𝓤) (W : Given 𝓤 H A) (mem : Memory → SProp 𝓤)
-    (run : Routine → Fun 𝓤) (𝓣 : Tables 𝓤 H) (known-grid : Triple 𝓤 (𝓣 .C #layout·take-grid) (TakeGrid 𝓤 H A mem run))
-    (known-cells : Triple 𝓤 (𝓣 .C #layout·cells-to-take) (CellsToTake 𝓤 H A mem run))
-    (known-count : Triple 𝓤 (𝓣 .C #layout·records-to-take) (RecordsToTake 𝓤 H A mem run))
-    (known-take : Triple 𝓤 (𝓣 .C #runfile·take-records) (TakeRecords 𝓤 H A mem run)) where
-  read-walks : Walks 𝓤 H A read.ended stayed (WpFn 𝓤 H (𝓣 .C) (𝓣 .Λ) code.function) (read.clauses 𝓤 H A mem run)
-  read-walks =
-      walked 𝓤 H A read.ended stayed (read.clauses 𝓤 H A mem run) (WpFn 𝓤 H (𝓣 .C) (𝓣 .Λ) code.function)
-      (λ κs. (slice-vals, (slice-vals, (slice-vals, tt))))
-      (λ κs. (
-        shr-slice-tells (named 0) (κs .0) u8,
-        (mut-slice-tells (named 1) (κs .1 .0) i32, (mut-slice-tells (named 2) (κs .1 .1 .0) R, tt)),
-      ))
-      (λ κs qs bounds a g are. via 𝓤 _ (fst∗ 𝓤 _ (emp 𝓤))
-      (walk 𝓤 H A W mem run (κs .0) (κs .1 .0) (κs .1 .1 .0) (qs .0) (qs .1 .0) (qs .1 .1 .0) (a .0) (a .1 .0)
-      (a .1 .1 .0) (are .0 .0 .1) (are .1 .0 .0 .1) (are .1 .1 .0 .0 .1)
-      (𝓣 .C) (𝓣 .Λ) (fmOf 𝓤 H (W .laws) 𝓣) known-grid known-cells known-count known-take))
-
-  read-meets : Meets 𝓤 H A read.signature (WpFn 𝓤 H (𝓣 .C) (𝓣 .Λ) code.function) (read.spec 𝓤 H A mem run)
-  read-meets =
-      walk-meets 𝓤 H A read.ended stayed W (
-        goes-none-slice 𝓤 H A W 3 (0 ∷ []) tt (plain (λ _. u8)) kept,
-        (goes-gave-slice 𝓤 H A W 3 1 tt (plain (λ _. i32)), (goes-gave-slice 𝓤 H A W 3 2 tt (plain (λ _. R)), tt)),
-      )
-      (read.clauses 𝓤 H A mem run) (WpFn 𝓤 H (𝓣 .C) (𝓣 .Λ) code.function)
-      (WpFn-mono 𝓤 H (W .laws) 𝓣 code.function) read-walks
+        releases ! (loc 6 0) 13 refl $ free0 ! $
+        keep ! (3 ∷ 5 ∷ 1 ∷ 4 ∷ 0 ∷ []) $
+        by ! (exits r u is zs left ts filledFrom))))))
 
 pub read-spec : {M : Type 1} → stated.statement M
 unfolding code.routine tablesOf
 read-spec 𝓤 H 𝓜 𝓖 𝓡 =
-    entered 𝓤 H (tripleOf 𝓤 H (𝓖 .A) read.signature (read.spec 𝓤 H (𝓖 .A) (𝓜 .mem) (𝓡 .run)))
-    (tables 𝓤 H 𝓜 𝓡 code.env .C) (tables 𝓤 H 𝓜 𝓡 code.env .Λ) #runfile·read code.function (code.unfolded 𝓤 H 𝓜 𝓡)
-    (read-meets 𝓤 H (𝓖 .A) (givenOf 𝓤 H 𝓜 𝓖) (𝓜 .mem) (𝓡 .run) (tablesOf 𝓤 H 𝓜 (tables 𝓤 H 𝓜 𝓡 code.env))
+    closes 𝓤 H 𝓜 𝓖 𝓡 parameters (plain (λ _. S.the-row)) (read.clauses 𝓤 H (𝓖 .A) (𝓜 .mem) (𝓡 .run))
+    code.env #runfile·read code.function (code.unfolded 𝓤 H 𝓜 𝓡)
+    (λ fm κs qs a g are. via 𝓤 _ (fst∗ 𝓤 _ (emp 𝓤))
+    (walk 𝓤 H (𝓖 .A) (givenOf 𝓤 H 𝓜 𝓖) (𝓜 .mem) (𝓡 .run) (κs .0) (κs .1 .0) (κs .1 .1 .0) (qs .0) (qs .1 .0)
+    (qs .1 .1 .0) (a .0) (a .1 .0) (a .1 .1 .0) (are .0 .0 .1) (are .1 .0 .0 .1) (are .1 .1 .0 .0 .1) _ _ fm
     (grid-known 𝓤 H 𝓜 𝓖 𝓡 code.env code.calls-layout·take-grid)
     (cells-known 𝓤 H 𝓜 𝓖 𝓡 code.env code.calls-layout·cells-to-take)
     (records-known 𝓤 H 𝓜 𝓖 𝓡 code.env code.calls-layout·records-to-take)
-    (take-known 𝓤 H 𝓜 𝓖 𝓡 code.env code.calls-runfile·take-records))
+    (take-known 𝓤 H 𝓜 𝓖 𝓡 code.env code.calls-runfile·take-records)))

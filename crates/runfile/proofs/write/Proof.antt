@@ -1,6 +1,6 @@
 -- `runfile::write` meets its contract: a walk of its MIR, by hand, after `proofs/read` of this crate and the kit's
 -- example `writer`, `proofs/put_back`.
---     stayed              what the function still has of its parameters at the end
+--     parameters, stayed  the parameters, and what the function still has of them at the end
 --     exits               what is left at the end is what the contract promises
 --     walk                the MIR from the entry
 -- There is no branch, and each call is one step. `calls-first` and `calls-grid` find the first unsound record, and lay
@@ -24,34 +24,35 @@ use base.Logic.{SProp, ent, emp, via, fst∗}
 use base.Fml.{Lft, GName, Share, Fml, ftrue, flft}
 use prog.Memory.{Memory}
 use prog.Routine.{Routine}
-use prog.Wp.{Heap, Calls, Loops, WpFn, Tables}
+use prog.Wp.{Heap, Calls, Loops, WpFn}
 use ghost.Atoms.{Atoms}
 use contract.Monad.{Fun}
-use contract.Running.{givenOf, tables, tablesOf}
+use contract.Running.{givenOf, tablesOf}
 use types.Kit.{Given, ‵, _⊛_, ⋆, _$_, _∵_, !, qed, by, move, drop, split, join, fsplit, fjoin, suffices, frame, done}
 use types.Run.{look, init, stop, hop, fld, from, load, addr, of-opd, and-then, no-more, assigns, land, returns, enter}
-use types.Run.{alloc1, alloc0, params1, pass1, pass0, free0}
+use types.Run.{params1, pass1, pass0, free0}
 use types.Part.{agg, whole, sub, look-in}
-use sound.WpLaws.{FmC, fmOf, WpFn-mono}
+use types.Kit.{keep}
+use sound.WpLaws.{FmC}
 use denote.RattleType.{RattleType, owns}
 use denote.Laws.{Is}
-use denote.Plain.{uint-makes, uint-vals, uint-tells}
 use denote.Builtin.{u8, u32, i32}
 use denote.Ref.{RefT}
 use denote.Signature.{plain}
-use denote.Slice.{sliceVal, MutSlice, ShrSlice, Room, finally, slice-vals, mut-slice-tells, shr-slice-tells}
+use denote.Slice.{sliceVal, MutSlice, ShrSlice, Room, finally}
 use denote.Steps.{owned, nothing}
 use denote.Enum.Laws as EL
 use denote.Triple.Statement.{Triple}
 use denote.Triple.Entry.{onEntry}
-use denote.Triple.Spec.{Meets, tripleOf}
-use denote.Triple.Table.{entered}
-use denote.Triple.Walked.{says, Stays, stay-none, stay-none-slice, gave-slice, walkOf, goes-none, goes-none-slice}
-use denote.Triple.Walked.{goes-gave-slice, Walks, ends-at, walked, walk-meets}
+use denote.Triple.Walked.{says, Stays, walkOf}
+use denote.Triple.Walked.{ends-at}
 use denote.Exit.{yes as kept}
 use Rattle.record.specs.declared.Peak.{Peak}
 use Rattle.record.proofs.Peak as T
-use Rattle.table.proofs.Locals.{localAt, copied, release}
+use Rattle.table.proofs.Walks.{closes}
+use Rattle.table.proofs.Parameters.{Parameter, mutable, none, number, shared, stays}
+use Rattle.table.proofs.Locals.{localAt, copied}
+use Rattle.table.proofs.Frame.{allocated, releases}
 use Rattle.layout.specs.declared.Written.{Written}
 use Rattle.sound.specs.Sound.{FirstUnsound}
 use Rattle.layout.specs.Inner.{putOf}
@@ -76,14 +77,11 @@ use Rattle.runfile.proofs.write.Code as code
 abbrev R : RattleType
 R = T.the-row
 
+abbrev parameters : List (Parameter 3)
+parameters = number w32 ∷ shared 0 tt i32 ∷ shared 1 tt R ∷ mutable 2 tt u8 ∷ []
+
 abbrev stayed : Stays (write.ended .signature .params) (write.ended .kept)
-stayed = (
-  stay-none (λ _. u32) kept,
-  (
-    stay-none-slice (0 ∷ []) tt (plain (λ _. i32)) kept,
-    (stay-none-slice (1 ∷ []) tt (plain (λ _. R)) kept, (gave-slice (2 ∷ []) tt (plain (λ _. u8)), tt)),
-  ),
-)
+stayed = stays parameters
 
 abbrev loc : ℕ → ℕ → ℕ
 loc = localAt 14
@@ -124,11 +122,11 @@ module _ {M : Type 1} (𝓤 : URA M) (H : Heap 𝓤) (A : Atoms 𝓤) (W : Given
   -- ---- the end
   exits : (w : Written) (u : Val) → Is S.the-row w (u ∷ []) → (k : ℕ) → FirstUnsound (h .now) (t .now) k
       → (zs : List ℕ) → GridLeft rows (h .now) n k ys w zs → (ts : List ℕ) → PutLeft zs cells (t .now) (putOf w n) ts
-      → ent 𝓤 (⋆ 𝓤 H A (‵ (flft κ₀ q₀) ∷ ‵ (flft κ₁ q₁) ∷ ‵ (flft κ₂ q₂) ∷ ‵ Hts ∷ ‵ Recs
+      → ent 𝓤 (⋆ 𝓤 H A (‵ (flft κ₀ q₀) ∷ ‵ (flft κ₁ q₁) ∷ ‵ (flft κ₂ q₂)
       ∷ ‵ (finally u8 γ ts) ∷ []))
       (Post u)
   exits w u is k found zs left ts put-left =
-      qed W (‵ (flft κ₀ q₀) ∷ ‵ (flft κ₁ q₁) ∷ ‵ (flft κ₂ q₂) ∷ ‵ Hts ∷ ‵ Recs ∷ ‵ (finally u8 γ ts) ∷ []) ∵
+      qed W (‵ (flft κ₀ q₀) ∷ ‵ (flft κ₁ q₁) ∷ ‵ (flft κ₂ q₂) ∷ ‵ (finally u8 γ ts) ∷ []) ∵
       suffices ! _ (ends-at 𝓤 H A write.ended stayed (write.clauses 𝓤 H A mem run) W bound u w
       (tt, (tt, (tt, (ts, tt)))) (tt, (tt, (tt, (put-left .0 ∙ left .0, tt))))) $
       says ! (record {
@@ -138,9 +136,7 @@ module _ {M : Type 1} (𝓤 : URA M) (H : Heap 𝓤) (A : Atoms 𝓤) (W : Given
         room = grid-written rows (h .now) (t .now) k ys zs w ts (left .1) (put-left .1);
       }) $
       nothing ! $ move ! (3 ∷ 0 ∷ []) $ join ! $ move ! (2 ∷ 0 ∷ []) $ join ! $ move ! (1 ∷ 0 ∷ []) $ join ! $ frame ! $
-      -- [the heights; the records; the room's last list]
-      nothing ! $ move ! (3 ∷ 0 ∷ []) $ fjoin ! $ move ! (2 ∷ 0 ∷ []) $ fjoin ! $ move ! (1 ∷ 0 ∷ []) $ fjoin ! $
-      owned ! u32 (Is u32) (uint-makes 𝓤 H A W w32) rows _ (refl, rows-fits) $ fjoin ! $
+      nothing ! $ move ! (1 ∷ 0 ∷ []) $ fjoin ! $ none ! $ none ! $ none ! $
       owned ! S.the-row (Is S.the-row) (EL.makes S.the-type S′.the-plain 𝓤 H A) w _ is $ move ! (1 ∷ 0 ∷ []) $ done !
 
   module _ (C : Calls 𝓤 H) (Λ : Loops 𝓤 H) (fm : FmC 𝓤 H (W .laws) C)
@@ -155,9 +151,7 @@ module _ {M : Type 1} (𝓤 : URA M) (H : Heap 𝓤) (A : Atoms 𝓤) (W : Given
         ∷ ‵ (owns (u32 ∷ ShrSlice (named 0) κ₀ i32 ∷ ShrSlice (named 1) κ₁ R ∷ MutSlice (named 2) κ₂ u8 ∷ []) a vals)
         ∷ []) ∵
         enter ! C Λ code.function (vint w32 rows ∷ valueOf h ∷ valueOf t ∷ wv ∷ []) _ $
-        alloc1 ! (λ l₀. alloc1 ! (λ l₁. alloc1 ! (λ l₂. alloc1 ! (λ l₃. alloc1 ! (λ l₄. alloc1 ! (λ l₅. alloc1 ! (λ l₆.
-        alloc1 ! (λ l₇. alloc1 ! (λ l₈. alloc1 ! (λ l₉. alloc1 ! (λ l₁₀. alloc1 ! (λ l₁₁. alloc1 ! (λ l₁₂.
-        alloc1 ! (λ l₁₃. alloc1 ! (λ l₁₄. alloc0 ! $ params1 ! $
+        allocated ! (λ l. params1 ! $
         pass1 ! (init ! (loc 0 1) refl (tt, record { fits = rows-fits })) $
         pass1 ! (init ! (loc 0 2) refl (tt, (tt, (record { fits = h-room .0 }, tt)))) $
         pass1 ! (init ! (loc 0 3) refl (tt, (tt, (record { fits = t-room .0 }, tt)))) $
@@ -212,59 +206,20 @@ module _ {M : Type 1} (𝓤 : URA M) (H : Heap 𝓤) (A : Atoms 𝓤) (W : Given
         assigns ! (of-opd ! (copied ! (loc 6 7) refl)) (from ! (stop !))
         (init ! (loc 6 0) refl (EL.lawful S.the-type S′.the-laws 𝓤 H A W tt .typed w _ is .0)) $
         returns ! (look ! (loc 6 0) refl) $
-        release ! (loc 6 0) refl refl $ release ! (loc 6 1) refl refl $ release ! (loc 6 2) refl refl $
-        release ! (loc 6 3) refl refl $ release ! (loc 6 4) refl refl $ release ! (loc 6 5) refl refl $
-        release ! (loc 6 6) refl refl $ release ! (loc 6 7) refl refl $ release ! (loc 6 8) refl refl $
-        release ! (loc 6 9) refl refl $ release ! (loc 6 10) refl refl $ release ! (loc 6 11) refl refl $
-        release ! (loc 6 12) refl refl $ release ! (loc 6 13) refl refl $ release ! (loc 6 14) refl refl $ free0 ! $
-        move ! (5 ∷ 3 ∷ 1 ∷ 4 ∷ 2 ∷ 0 ∷ []) $
-        by ! (exits w u is k found zs left ts put-left))))))))))))))))))))
-
-module _ {M : Type 1} (𝓤 : URA M) (H : Heap 𝓤) (A : Atoms 𝓤) (W : Given 𝓤 H A) (mem : Memory → SProp 𝓤)
-    (run : Routine → Fun 𝓤) (𝓣 : Tables 𝓤 H)
-    (known-first : Triple 𝓤 (𝓣 .C #runfile·first-unsound) (First 𝓤 H A mem run))
-    (known-grid : Triple 𝓤 (𝓣 .C #layout·put-grid) (PutGrid 𝓤 H A mem run))
-    (known-count : Triple 𝓤 (𝓣 .C #layout·records-to-put) (RecordsToPut 𝓤 H A mem run))
-    (known-put : Triple 𝓤 (𝓣 .C #runfile·put-records) (PutRecords 𝓤 H A mem run)) where
-  write-walks : Walks 𝓤 H A write.ended stayed (WpFn 𝓤 H (𝓣 .C) (𝓣 .Λ) code.function) (write.clauses 𝓤 H A mem run)
-  write-walks =
-      walked 𝓤 H A write.ended stayed (write.clauses 𝓤 H A mem run) (WpFn 𝓤 H (𝓣 .C) (𝓣 .Λ) code.function)
-      (λ κs. (uint-vals w32, (slice-vals, (slice-vals, (slice-vals, tt)))))
-      (λ κs. (
-        uint-tells w32,
-        (
-          shr-slice-tells (named 0) (κs .0) i32,
-          (shr-slice-tells (named 1) (κs .1 .0) R, (mut-slice-tells (named 2) (κs .1 .1 .0) u8, tt)),
-        ),
-      ))
-      (λ κs qs bounds a g are. via 𝓤 _ (fst∗ 𝓤 _ (emp 𝓤))
-      (walk 𝓤 H A W mem run (κs .0) (κs .1 .0) (κs .1 .1 .0) (qs .0) (qs .1 .0) (qs .1 .1 .0) (a .0) (a .1 .0)
-      (a .1 .1 .0) (a .1 .1 .1 .0 .ptr .0) (a .1 .1 .1 .0 .ptr .1) (a .1 .1 .1 .0 .name) (a .1 .1 .1 .0 .now)
-      (are .0 .1) (are .1 .0 .0 .1) (are .1 .1 .0 .0 .1) (are .1 .1 .1 .0 .0 .1)
-      (𝓣 .C) (𝓣 .Λ) (fmOf 𝓤 H (W .laws) 𝓣) known-first known-grid known-count known-put))
-
-  write-meets : Meets 𝓤 H A write.signature (WpFn 𝓤 H (𝓣 .C) (𝓣 .Λ) code.function) (write.spec 𝓤 H A mem run)
-  write-meets =
-      walk-meets 𝓤 H A write.ended stayed W (
-        goes-none 𝓤 H A W 3 (λ _. u32) kept (λ κs x f. refl),
-        (
-          goes-none-slice 𝓤 H A W 3 (0 ∷ []) tt (plain (λ _. i32)) kept,
-          (
-            goes-none-slice 𝓤 H A W 3 (1 ∷ []) tt (plain (λ _. R)) kept,
-            (goes-gave-slice 𝓤 H A W 3 2 tt (plain (λ _. u8)), tt),
-          ),
-        ),
-      )
-      (write.clauses 𝓤 H A mem run) (WpFn 𝓤 H (𝓣 .C) (𝓣 .Λ) code.function)
-      (WpFn-mono 𝓤 H (W .laws) 𝓣 code.function) write-walks
+        releases ! (loc 6 0) 15 refl $ free0 ! $
+        keep ! (5 ∷ 3 ∷ 1 ∷ 0 ∷ []) $
+        by ! (exits w u is k found zs left ts put-left))))))
 
 pub write-spec : {M : Type 1} → stated.statement M
 unfolding code.routine tablesOf
 write-spec 𝓤 H 𝓜 𝓖 𝓡 =
-    entered 𝓤 H (tripleOf 𝓤 H (𝓖 .A) write.signature (write.spec 𝓤 H (𝓖 .A) (𝓜 .mem) (𝓡 .run)))
-    (tables 𝓤 H 𝓜 𝓡 code.env .C) (tables 𝓤 H 𝓜 𝓡 code.env .Λ) #runfile·write code.function (code.unfolded 𝓤 H 𝓜 𝓡)
-    (write-meets 𝓤 H (𝓖 .A) (givenOf 𝓤 H 𝓜 𝓖) (𝓜 .mem) (𝓡 .run) (tablesOf 𝓤 H 𝓜 (tables 𝓤 H 𝓜 𝓡 code.env))
+    closes 𝓤 H 𝓜 𝓖 𝓡 parameters (plain (λ _. S.the-row)) (write.clauses 𝓤 H (𝓖 .A) (𝓜 .mem) (𝓡 .run))
+    code.env #runfile·write code.function (code.unfolded 𝓤 H 𝓜 𝓡)
+    (λ fm κs qs a g are. via 𝓤 _ (fst∗ 𝓤 _ (emp 𝓤))
+    (walk 𝓤 H (𝓖 .A) (givenOf 𝓤 H 𝓜 𝓖) (𝓜 .mem) (𝓡 .run) (κs .0) (κs .1 .0) (κs .1 .1 .0) (qs .0) (qs .1 .0)
+    (qs .1 .1 .0) (a .0) (a .1 .0) (a .1 .1 .0) (a .1 .1 .1 .0 .ptr .0) (a .1 .1 .1 .0 .ptr .1) (a .1 .1 .1 .0 .name)
+    (a .1 .1 .1 .0 .now) (are .0 .1) (are .1 .0 .0 .1) (are .1 .1 .0 .0 .1) (are .1 .1 .1 .0 .0 .1) _ _ fm
     (first-known 𝓤 H 𝓜 𝓖 𝓡 code.env code.calls-runfile·first-unsound)
     (grid-known 𝓤 H 𝓜 𝓖 𝓡 code.env code.calls-layout·put-grid)
     (count-known 𝓤 H 𝓜 𝓖 𝓡 code.env code.calls-layout·records-to-put)
-    (put-known 𝓤 H 𝓜 𝓖 𝓡 code.env code.calls-runfile·put-records))
+    (put-known 𝓤 H 𝓜 𝓖 𝓡 code.env code.calls-runfile·put-records)))

@@ -13,18 +13,18 @@ use base.Logic.{SProp, ent}
 use base.Fml.{Lft, GName, Share, Fml, ftrue, fex, flft}
 use prog.Memory.{Memory}
 use prog.Routine.{Routine}
-use prog.Wp.{Heap, Calls, Loops, WpFn, Tables}
+use prog.Wp.{Heap, Calls, Loops, WpFn}
 use ghost.Atoms.{Atoms}
 use contract.Lifetimes.{Lfts}
 use contract.Monad.{Fun}
-use contract.Running.{givenOf, tables, tablesOf}
+use contract.Running.{givenOf, tablesOf}
 use types.Kit.{Given, Item, ‵, raw, _⊛_, some, later, mean, ⋆, _$_, _∵_, !, qed, by, move, keep, drop, group, split}
 use types.Kit.{join, pick, learn, fsplit, fjoin, fpack, feqL, suffices, frame, await, updating, now as at-once, show}
 use types.Kit.{done}
 use types.Run.{look, init, stop, hop, fld, from, load, addr, of-opd, and-then, no-more, assigns, land, returns, enter}
-use types.Run.{alloc1, alloc0, params1, pass1, pass0, free0}
+use types.Run.{params1, pass1, pass0, free0}
 use types.Part.{agg, whole, sub, look-in}
-use sound.WpLaws.{FmC, fmOf, WpFn-mono}
+use sound.WpLaws.{FmC}
 use denote.RattleType.{owns}
 use denote.Laws.{Is}
 use denote.Builtin.{u8, usize, i32}
@@ -32,42 +32,40 @@ use denote.Ref.{RefT}
 use denote.Slice.{sliceVal, MutSlice, ShrSlice, Room, finally}
 use denote.Steps.{owned, nothing}
 use denote.Struct.Laws as LL
-use denote.Triple.Statement.{Contract, Triple}
+use denote.Triple.Statement.{Triple}
 use denote.Triple.Clauses.{Lasts, lasts, atExit}
 use denote.Triple.Entry.{onEntry}
-use denote.Triple.Spec.{Meets, tripleOf}
-use denote.Triple.Table.{entered, cited}
-use denote.Triple.Walked.{needs, Stays, walkOf, Walks, ends-at, walked, walk-meets}
+use denote.Triple.Spec.{tripleOf}
+use denote.Triple.Walked.{needs, Stays, walkOf, ends-at}
+use denote.Signature.{plain}
 use Rattle.record.specs.declared.Peak.{Peak}
 use Rattle.run.specs.declared.Run.{Run}
 use Rattle.run.specs.declared.Step.{Step}
+use Rattle.run.proofs.Values.{run-by-value, runVal}
 use Rattle.run.proofs.Run as N
 use Rattle.run.proofs.Run.Laws as N′
 use Rattle.run.proofs.Step as S
 use Rattle.run.proofs.Step.Laws as S′
-use Rattle.table.proofs.Locals.{localAt, copied, release}
+use Rattle.table.proofs.Parameters.{Parameter, Spent, mutable, none, number, shared, spends, stays}
+use Rattle.table.proofs.Walks.{Promise, closes, knows}
+use Rattle.table.proofs.Locals.{localAt, copied}
+use Rattle.table.proofs.Frame.{allocated, releases}
 use Rattle.run.proofs.column as called
 use Rattle.run.proofs.column.Symbol as called-def
 use Rattle.run.proofs.column.Symbol.{name as #run·column}
 use Rattle.run.proofs.column.Met as called-thm
-use Rattle.grids.specs.declared.lend.Stepped.{Stepped}
 use Rattle.grids.proofs.lend.Stepped as L
 use Rattle.grids.proofs.lend.Stepped.Laws as L′
-use Rattle.grids.proofs.Parameters.{Parameter, plainly, number, shared, mutable}
-use Rattle.grids.proofs.Parameters.{stays, spells, tells, goes as goes-all, Spent, spends, none}
-use Rattle.grids.proofs.LentRow.{R, Entries, row, row-typed, row-field}
+use Rattle.grids.proofs.Stepped.{returned, returned-is}
+use Rattle.grids.proofs.LentRow.{R, Entries, row, row-typed}
 use Rattle.grids.proofs.LentRow.{rowAt, RowMut, KeptMut, lends-mut, back-mut, calls-lent}
 use Rattle.grids.proofs.lend.column.Key.{name as #lend·column}
 use Rattle.grids.proofs.lend.column as lend
 use Rattle.grids.proofs.lend.column.Statement as stated
 use Rattle.grids.proofs.lend.column.Code as code
 
--- a run record by value
-abbrev run : Parameter 3
-run = plainly N.the-row (LL.vals N.the-type N′.the-laws) (LL.tells N.the-type N′.the-laws) (λ x f. refl)
-
 abbrev parameters : List (Parameter 3)
-parameters = run ∷ shared 0 tt i32 ∷ mutable 1 tt i32 ∷ mutable 2 tt u8 ∷ row ∷ number w64 ∷ []
+parameters = run-by-value ∷ shared 0 tt i32 ∷ mutable 1 tt i32 ∷ mutable 2 tt u8 ∷ row ∷ number w64 ∷ []
 
 abbrev stayed : Stays (lend.ended .signature .params) (lend.ended .kept)
 stayed = stays parameters
@@ -79,20 +77,8 @@ hi = localAt 15
 abbrev lo : ℕ → ℕ → ℕ
 lo = localAt 14
 
-abbrev runVal : Run → Val
-runVal = LL.val N.the-type N′.the-laws
-
-abbrev Called : {M : Type 1} (𝓤 : URA M) (H : Heap 𝓤) (A : Atoms 𝓤) (mem : Memory → SProp 𝓤)
-    (run : Routine → Fun 𝓤) → Contract 𝓤
+abbrev Called : {M : Type 1} → Promise M
 Called 𝓤 H A mem run = tripleOf 𝓤 H A called.signature (called.spec 𝓤 H A mem run)
-
--- what is returned: the answer, and the row after it
-abbrev returned : Step → List Peak → Stepped
-returned r ys = record { step = r; row = ys }
-
-returned-is : (r : Step) (u : Val) → Is S.the-row r (u ∷ []) → (ys : List Peak) (z : Val) → Is Entries ys (z ∷ [])
-    → Is L.the-row (returned r ys) (vstruct (vcons u (vcons z vnil)) ∷ [])
-returned-is r u is ys z ys-is = ((u ∷ [], (z ∷ [], tt)), (refl, (is, (row-field ys z ys-is, tt))))
 
 module _ {M : Type 1} (𝓤 : URA M) (H : Heap 𝓤) (A : Atoms 𝓤) (W : Given 𝓤 H A) (mem : Memory → SProp 𝓤)
     (run : Routine → Fun 𝓤) (κ₀ κ₁ κ₂ : Lft) (q₀ q₁ q₂ : Share) (ru : Run) (room : ℕ) (c : RefT (List ℤ))
@@ -214,9 +200,7 @@ module _ {M : Type 1} (𝓤 : URA M) (H : Heap 𝓤) (A : Atoms 𝓤) (W : Given
         ∷ ‵ (owns (N.the-row ∷ ShrSlice (named 0) κ₀ i32 ∷ MutSlice (named 1) κ₁ i32 ∷ MutSlice (named 2) κ₂ u8
         ∷ Entries ∷ usize ∷ []) a vals) ∷ []) ∵
         enter ! C Λ code.function (runVal ru ∷ cv ∷ gv ∷ wv ∷ v ∷ vint w64 room ∷ []) _ $
-        alloc1 ! (λ l₀. alloc1 ! (λ l₁. alloc1 ! (λ l₂. alloc1 ! (λ l₃. alloc1 ! (λ l₄. alloc1 ! (λ l₅. alloc1 ! (λ l₆.
-        alloc1 ! (λ l₇. alloc1 ! (λ l₈. alloc1 ! (λ l₉. alloc1 ! (λ l₁₀. alloc1 ! (λ l₁₁. alloc1 ! (λ l₁₂.
-        alloc1 ! (λ l₁₃. alloc1 ! (λ l₁₄. alloc1 ! (λ l₁₅. alloc0 ! $ params1 ! $
+        allocated ! (λ l. params1 ! $
         pass1 ! (init ! (hi 0 1) refl (LL.lawful N.the-type N′.the-laws 𝓤 H A W .typed ru _ ru-is .0)) $
         pass1 ! (init ! (hi 0 2) refl (tt, (tt, (record { fits = c-room .0 }, tt)))) $
         pass1 ! (init ! (hi 0 3) refl (tt, (tt, (record { fits = g-room .0 }, tt)))) $
@@ -247,10 +231,10 @@ module _ {M : Type 1} (𝓤 : URA M) (H : Heap 𝓤) (A : Atoms 𝓤) (W : Given
         move ! (2 ∷ 1 ∷ 0 ∷ 5 ∷ 4 ∷ []) $ group ! 6 $
         -- [what is lent; _15; …; _0; …]: the array comes to the front, and behind it what frees it
         move ! (hi 1 7 ∷ 0 ∷ hi 2 7 ∷ []) $
-        calls-lent ! fm (Called 𝓤 H A mem run) known (to-call l₇) Before After
-        S.the-row l₇ v (RowMut l₇ room xs (named 3)) (KeptMut l₇ room xs) (λ δ. fex (List Peak) (finally R δ))
-        (lends-mut l₇ room xs 𝓤 H A W (named 3) v xs-is few) (back-mut l₇ room xs 𝓤 H A W (xs-is .1 .0 .1))
-        (goes l₇) (gives l₇) (λ ν δ. and-then ! (copied ! (lo 3 1) refl) (and-then ! (copied ! (lo 3 2) refl)
+        calls-lent ! fm (Called 𝓤 H A mem run) known (to-call (l 7)) Before After
+        S.the-row (l 7) v (RowMut (l 7) room xs (named 3)) (KeptMut (l 7) room xs) (λ δ. fex (List Peak) (finally R δ))
+        (lends-mut (l 7) room xs 𝓤 H A W (named 3) v xs-is few) (back-mut (l 7) room xs 𝓤 H A W (xs-is .1 .0 .1))
+        (goes (l 7)) (gives (l 7)) (λ ν δ. and-then ! (copied ! (lo 3 1) refl) (and-then ! (copied ! (lo 3 2) refl)
         (and-then ! (copied ! (hi 3 10) refl) (and-then ! (copied ! (hi 3 12) refl)
         (and-then ! (copied ! (hi 3 14) refl) (no-more !)))))) (λ r u is ys z ys-is.
         land ! (from ! (stop !)) (init ! (hi 3 8) refl (LL.lawful S.the-type S′.the-laws 𝓤 H A W .typed r _ is .0)) $
@@ -259,37 +243,18 @@ module _ {M : Type 1} (𝓤 : URA M) (H : Heap 𝓤) (A : Atoms 𝓤) (W : Given
         (init ! (hi 3 15) refl (row-typed 𝓤 H A W ys z ys-is)) $
         assigns ! (agg ! (and-then ! (copied ! (hi 3 8) refl) (and-then ! (copied ! (hi 3 15) refl) (no-more !))))
         (from ! (stop !)) (init ! (lo 3 0) refl (LL.lawful L.the-type L′.the-laws 𝓤 H A W .typed (returned r ys) _
-        (returned-is r u is ys z ys-is) .0)) $ returns ! (look ! (lo 3 0) refl) $ release ! (lo 3 0) refl refl $
-        release ! (lo 3 1) refl refl $ release ! (lo 3 2) refl refl $ release ! (lo 3 3) refl refl $
-        release ! (lo 3 4) refl refl $ release ! (lo 3 5) refl refl $ release ! (lo 3 6) refl refl $
-        release ! 1 refl refl $ release ! (hi 1 8) refl refl $ release ! (hi 1 9) refl refl $
-        release ! (hi 1 10) refl refl $ release ! (hi 1 11) refl refl $ release ! (hi 1 12) refl refl $
-        release ! (hi 1 13) refl refl $ release ! (hi 1 14) refl refl $ release ! (hi 1 15) refl refl $ free0 ! $
-        by ! (exits r u is ys z ys-is))))))))))))))))))
-
-module _ {M : Type 1} (𝓤 : URA M) (H : Heap 𝓤) (A : Atoms 𝓤) (W : Given 𝓤 H A) (mem : Memory → SProp 𝓤)
-    (run : Routine → Fun 𝓤) (𝓣 : Tables 𝓤 H) (known : Triple 𝓤 (𝓣 .C #run·column) (Called 𝓤 H A mem run)) where
-  column-walks : Walks 𝓤 H A lend.ended stayed (WpFn 𝓤 H (𝓣 .C) (𝓣 .Λ) code.function) (lend.clauses 𝓤 H A mem run)
-  column-walks =
-      walked 𝓤 H A lend.ended stayed (lend.clauses 𝓤 H A mem run) (WpFn 𝓤 H (𝓣 .C) (𝓣 .Λ) code.function)
-      (spells parameters) (tells parameters)
-      (λ κs qs bounds a g are. needs 𝓤 (a .1 .1 .1 .1 .1 .0 ≤ 64) _ (λ few.
-      walk 𝓤 H A W mem run (κs .0) (κs .1 .0) (κs .1 .1 .0) (qs .0) (qs .1 .0) (qs .1 .1 .0) (a .0)
-      (a .1 .1 .1 .1 .1 .0) (a .1 .0) (a .1 .1 .0) (a .1 .1 .1 .0) (a .1 .1 .1 .1 .0) _ (are .0)
-      (are .1 .1 .1 .1 .1 .0 .1) (are .1 .0 .0 .1) (are .1 .1 .0 .0 .1) (are .1 .1 .1 .0 .0 .1) (are .1 .1 .1 .1 .0)
-      few (𝓣 .C) (𝓣 .Λ) (fmOf 𝓤 H (W .laws) 𝓣) known))
-
-  column-meets : Meets 𝓤 H A lend.signature (WpFn 𝓤 H (𝓣 .C) (𝓣 .Λ) code.function) (lend.spec 𝓤 H A mem run)
-  column-meets =
-      walk-meets 𝓤 H A lend.ended stayed W (goes-all 𝓤 H A W parameters)
-      (lend.clauses 𝓤 H A mem run) (WpFn 𝓤 H (𝓣 .C) (𝓣 .Λ) code.function)
-      (WpFn-mono 𝓤 H (W .laws) 𝓣 code.function) column-walks
+        (returned-is r u is ys z ys-is) .0)) $ returns ! (look ! (lo 3 0) refl) $ releases ! (lo 3 0) 7 refl $
+        releases ! 1 1 refl $ releases ! (hi 1 8) 8 refl $ free0 ! $
+        by ! (exits r u is ys z ys-is)))
 
 pub column-spec : {M : Type 1} → stated.statement M
 unfolding code.routine tablesOf
 column-spec 𝓤 H 𝓜 𝓖 𝓡 =
-    entered 𝓤 H (tripleOf 𝓤 H (𝓖 .A) lend.signature (lend.spec 𝓤 H (𝓖 .A) (𝓜 .mem) (𝓡 .run)))
-    (tables 𝓤 H 𝓜 𝓡 code.env .C) (tables 𝓤 H 𝓜 𝓡 code.env .Λ) #lend·column code.function (code.unfolded 𝓤 H 𝓜 𝓡)
-    (column-meets 𝓤 H (𝓖 .A) (givenOf 𝓤 H 𝓜 𝓖) (𝓜 .mem) (𝓡 .run) (tablesOf 𝓤 H 𝓜 (tables 𝓤 H 𝓜 𝓡 code.env))
-    (cited 𝓤 H (Called 𝓤 H (𝓖 .A) (𝓜 .mem) (𝓡 .run)) 𝓜 𝓡 code.env #run·column called-def.routine code.calls-run·column
-    (called-thm.met 𝓤 H 𝓜 𝓖 𝓡)))
+    closes 𝓤 H 𝓜 𝓖 𝓡 parameters (plain (λ _. L.the-row)) (lend.clauses 𝓤 H (𝓖 .A) (𝓜 .mem) (𝓡 .run))
+    code.env #lend·column code.function (code.unfolded 𝓤 H 𝓜 𝓡)
+    (λ fm κs qs a g are. needs 𝓤 (a .1 .1 .1 .1 .1 .0 ≤ 64) _ (λ few.
+    walk 𝓤 H (𝓖 .A) (givenOf 𝓤 H 𝓜 𝓖) (𝓜 .mem) (𝓡 .run) (κs .0) (κs .1 .0) (κs .1 .1 .0) (qs .0) (qs .1 .0)
+    (qs .1 .1 .0) (a .0) (a .1 .1 .1 .1 .1 .0) (a .1 .0) (a .1 .1 .0) (a .1 .1 .1 .0) (a .1 .1 .1 .1 .0) _ (are .0)
+    (are .1 .1 .1 .1 .1 .0 .1) (are .1 .0 .0 .1) (are .1 .1 .0 .0 .1) (are .1 .1 .1 .0 .0 .1) (are .1 .1 .1 .1 .0)
+    few _ _ fm
+    (knows Called called-def.name called-def.routine called-thm.met 𝓤 H 𝓜 𝓖 𝓡 code.env code.calls-run·column)))

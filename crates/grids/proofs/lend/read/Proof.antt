@@ -13,18 +13,18 @@ use base.Logic.{SProp, ent}
 use base.Fml.{Lft, GName, Share, Fml, ftrue, fex, flft}
 use prog.Memory.{Memory}
 use prog.Routine.{Routine}
-use prog.Wp.{Heap, Calls, Loops, WpFn, Tables}
+use prog.Wp.{Heap, Calls, Loops, WpFn}
 use ghost.Atoms.{Atoms}
 use contract.Lifetimes.{Lfts}
 use contract.Monad.{Fun}
-use contract.Running.{givenOf, tables, tablesOf}
+use contract.Running.{givenOf, tablesOf}
 use types.Kit.{Given, Item, ‵, raw, _⊛_, some, later, mean, ⋆, _$_, _∵_, !, qed, by, move, keep, drop, group, split}
 use types.Kit.{join, pick, learn, fsplit, fjoin, fpack, feqL, suffices, frame, await, updating, now as at-once, show}
 use types.Kit.{done}
 use types.Run.{look, init, stop, hop, fld, from, load, addr, of-opd, and-then, no-more, assigns, land, returns, enter}
-use types.Run.{alloc1, alloc0, params1, pass1, pass0, free0}
+use types.Run.{params1, pass1, pass0, free0}
 use types.Part.{agg, whole, sub, look-in}
-use sound.WpLaws.{FmC, fmOf, WpFn-mono}
+use sound.WpLaws.{FmC}
 use denote.RattleType.{owns}
 use denote.Laws.{Is}
 use denote.Builtin.{u8, usize, i32}
@@ -33,17 +33,20 @@ use denote.Slice.{sliceVal, MutSlice, ShrSlice, Room, finally}
 use denote.Steps.{owned, nothing}
 use denote.Enum.Laws as EL
 use denote.Struct.Laws as LL
-use denote.Triple.Statement.{Contract, Triple}
+use denote.Triple.Statement.{Triple}
 use denote.Triple.Clauses.{Lasts, lasts, atExit}
 use denote.Triple.Entry.{onEntry}
-use denote.Triple.Spec.{Meets, tripleOf}
-use denote.Triple.Table.{entered, cited}
-use denote.Triple.Walked.{needs, Stays, walkOf, Walks, ends-at, walked, walk-meets}
+use denote.Triple.Spec.{tripleOf}
+use denote.Triple.Walked.{needs, Stays, walkOf, ends-at}
+use denote.Signature.{plain}
 use Rattle.record.specs.declared.Peak.{Peak}
 use Rattle.layout.specs.declared.ReadBack.{ReadBack}
 use Rattle.layout.proofs.ReadBack as S
 use Rattle.layout.proofs.ReadBack.Laws as S′
-use Rattle.table.proofs.Locals.{localAt, copied, release}
+use Rattle.table.proofs.Walks.{Promise, closes, knows}
+use Rattle.table.proofs.Parameters.{Parameter, Spent, mutable, none, number, shared, spends, stays}
+use Rattle.table.proofs.Locals.{localAt, copied}
+use Rattle.table.proofs.Frame.{allocated, releases}
 use Rattle.runfile.proofs.read as called
 use Rattle.runfile.proofs.read.Symbol as called-def
 use Rattle.runfile.proofs.read.Symbol.{name as #runfile·read}
@@ -51,8 +54,6 @@ use Rattle.runfile.proofs.read.Met as called-thm
 use Rattle.grids.specs.declared.lend.Back.{Back}
 use Rattle.grids.proofs.lend.Back as L
 use Rattle.grids.proofs.lend.Back.Laws as L′
-use Rattle.grids.proofs.Parameters.{Parameter, number, shared, mutable}
-use Rattle.grids.proofs.Parameters.{stays, spells, tells, goes as goes-all, Spent, spends, none}
 use Rattle.grids.proofs.LentRow.{R, Entries, row, row-typed, row-field}
 use Rattle.grids.proofs.LentRow.{rowAt, RowMut, KeptMut, lends-mut, back-mut, calls-lent}
 use Rattle.grids.proofs.lend.read.Key.{name as #lend·read}
@@ -73,8 +74,7 @@ hi = localAt 11
 abbrev lo : ℕ → ℕ → ℕ
 lo = localAt 10
 
-abbrev Called : {M : Type 1} (𝓤 : URA M) (H : Heap 𝓤) (A : Atoms 𝓤) (mem : Memory → SProp 𝓤)
-    (run : Routine → Fun 𝓤) → Contract 𝓤
+abbrev Called : {M : Type 1} → Promise M
 Called 𝓤 H A mem run = tripleOf 𝓤 H A called.signature (called.spec 𝓤 H A mem run)
 
 -- what is returned: the answer, and the row after it
@@ -190,8 +190,7 @@ module _ {M : Type 1} (𝓤 : URA M) (H : Heap 𝓤) (A : Atoms 𝓤) (W : Given
         qed W ((‵ (flft κ₀ q₀) ⊛ ‵ (flft κ₁ q₁) ⊛ ‵ ftrue)
         ∷ ‵ (owns (ShrSlice (named 0) κ₀ u8 ∷ MutSlice (named 1) κ₁ i32 ∷ Entries ∷ usize ∷ []) a vals) ∷ []) ∵
         enter ! C Λ code.function (fv ∷ hv ∷ v ∷ vint w64 room ∷ []) _ $
-        alloc1 ! (λ l₀. alloc1 ! (λ l₁. alloc1 ! (λ l₂. alloc1 ! (λ l₃. alloc1 ! (λ l₄. alloc1 ! (λ l₅. alloc1 ! (λ l₆.
-        alloc1 ! (λ l₇. alloc1 ! (λ l₈. alloc1 ! (λ l₉. alloc1 ! (λ l₁₀. alloc1 ! (λ l₁₁. alloc0 ! $ params1 ! $
+        allocated ! (λ l. params1 ! $
         pass1 ! (init ! (hi 0 1) refl (tt, (tt, (record { fits = f-room .0 }, tt)))) $
         pass1 ! (init ! (hi 0 2) refl (tt, (tt, (record { fits = h-room .0 }, tt)))) $
         pass1 ! (init ! (hi 0 3) refl (row-typed 𝓤 H A W xs v xs-is)) $
@@ -214,10 +213,10 @@ module _ {M : Type 1} (𝓤 : URA M) (H : Heap 𝓤) (A : Atoms 𝓤) (W : Given
         move ! (1 ∷ 0 ∷ 3 ∷ []) $ group ! 4 $
         -- [what is lent; _11; …; _0; …]: the array comes to the front, and behind it what frees it
         move ! (hi 1 5 ∷ 0 ∷ hi 2 5 ∷ []) $
-        calls-lent ! fm (Called 𝓤 H A mem run) known (to-call l₅) Before After
-        S.the-row l₅ v (RowMut l₅ room xs (named 2)) (KeptMut l₅ room xs) (λ δ. fex (List Peak) (finally R δ))
-        (lends-mut l₅ room xs 𝓤 H A W (named 2) v xs-is few) (back-mut l₅ room xs 𝓤 H A W (xs-is .1 .0 .1))
-        (goes l₅) (gives l₅) (λ ν δ. and-then ! (copied ! (lo 3 1) refl) (and-then ! (copied ! (hi 3 8) refl)
+        calls-lent ! fm (Called 𝓤 H A mem run) known (to-call (l 5)) Before After
+        S.the-row (l 5) v (RowMut (l 5) room xs (named 2)) (KeptMut (l 5) room xs) (λ δ. fex (List Peak) (finally R δ))
+        (lends-mut (l 5) room xs 𝓤 H A W (named 2) v xs-is few) (back-mut (l 5) room xs 𝓤 H A W (xs-is .1 .0 .1))
+        (goes (l 5)) (gives (l 5)) (λ ν δ. and-then ! (copied ! (lo 3 1) refl) (and-then ! (copied ! (hi 3 8) refl)
         (and-then ! (copied ! (hi 3 10) refl) (no-more !)))) (λ r u is ys z ys-is.
         land ! (from ! (stop !)) (init ! (hi 3 6) refl (EL.lawful S.the-type S′.the-laws 𝓤 H A W tt .typed r _ is .0)) $
         -- [what came back; the array; what frees it; _11; …]
@@ -225,36 +224,16 @@ module _ {M : Type 1} (𝓤 : URA M) (H : Heap 𝓤) (A : Atoms 𝓤) (W : Given
         (init ! (hi 3 11) refl (row-typed 𝓤 H A W ys z ys-is)) $
         assigns ! (agg ! (and-then ! (copied ! (hi 3 6) refl) (and-then ! (copied ! (hi 3 11) refl) (no-more !))))
         (from ! (stop !)) (init ! (lo 3 0) refl (LL.lawful L.the-type L′.the-laws 𝓤 H A W .typed (returned r ys) _
-        (returned-is r u is ys z ys-is) .0)) $ returns ! (look ! (lo 3 0) refl) $ release ! (lo 3 0) refl refl $
-        release ! (lo 3 1) refl refl $ release ! (lo 3 2) refl refl $ release ! (lo 3 3) refl refl $
-        release ! (lo 3 4) refl refl $ release ! 1 refl refl $ release ! (hi 1 6) refl refl $
-        release ! (hi 1 7) refl refl $ release ! (hi 1 8) refl refl $ release ! (hi 1 9) refl refl $
-        release ! (hi 1 10) refl refl $ release ! (hi 1 11) refl refl $ free0 ! $
-        by ! (exits r u is ys z ys-is))))))))))))))
-
-module _ {M : Type 1} (𝓤 : URA M) (H : Heap 𝓤) (A : Atoms 𝓤) (W : Given 𝓤 H A) (mem : Memory → SProp 𝓤)
-    (run : Routine → Fun 𝓤) (𝓣 : Tables 𝓤 H) (known : Triple 𝓤 (𝓣 .C #runfile·read) (Called 𝓤 H A mem run)) where
-  read-walks : Walks 𝓤 H A lend.ended stayed (WpFn 𝓤 H (𝓣 .C) (𝓣 .Λ) code.function) (lend.clauses 𝓤 H A mem run)
-  read-walks =
-      walked 𝓤 H A lend.ended stayed (lend.clauses 𝓤 H A mem run) (WpFn 𝓤 H (𝓣 .C) (𝓣 .Λ) code.function)
-      (spells parameters) (tells parameters)
-      (λ κs qs bounds a g are. needs 𝓤 (a .1 .1 .1 .0 ≤ 64) _ (λ few.
-      walk 𝓤 H A W mem run (κs .0) (κs .1 .0) (qs .0) (qs .1 .0) (a .1 .1 .1 .0) (a .0) (a .1 .0) (a .1 .1 .0) _
-      (are .1 .1 .1 .0 .1) (are .0 .0 .1) (are .1 .0 .0 .1) (are .1 .1 .0) few (𝓣 .C) (𝓣 .Λ) (fmOf 𝓤 H (W .laws) 𝓣)
-      known))
-
-  read-meets : Meets 𝓤 H A lend.signature (WpFn 𝓤 H (𝓣 .C) (𝓣 .Λ) code.function) (lend.spec 𝓤 H A mem run)
-  read-meets =
-      walk-meets 𝓤 H A lend.ended stayed W (goes-all 𝓤 H A W parameters)
-      (lend.clauses 𝓤 H A mem run) (WpFn 𝓤 H (𝓣 .C) (𝓣 .Λ) code.function)
-      (WpFn-mono 𝓤 H (W .laws) 𝓣 code.function) read-walks
+        (returned-is r u is ys z ys-is) .0)) $ returns ! (look ! (lo 3 0) refl) $ releases ! (lo 3 0) 5 refl $
+        releases ! 1 1 refl $ releases ! (hi 1 6) 6 refl $ free0 ! $
+        by ! (exits r u is ys z ys-is)))
 
 pub read-spec : {M : Type 1} → stated.statement M
 unfolding code.routine tablesOf
 read-spec 𝓤 H 𝓜 𝓖 𝓡 =
-    entered 𝓤 H (tripleOf 𝓤 H (𝓖 .A) lend.signature (lend.spec 𝓤 H (𝓖 .A) (𝓜 .mem) (𝓡 .run)))
-    (tables 𝓤 H 𝓜 𝓡 code.env .C) (tables 𝓤 H 𝓜 𝓡 code.env .Λ) #lend·read code.function (code.unfolded 𝓤 H 𝓜 𝓡)
-    (read-meets 𝓤 H (𝓖 .A) (givenOf 𝓤 H 𝓜 𝓖) (𝓜 .mem) (𝓡 .run) (tablesOf 𝓤 H 𝓜 (tables 𝓤 H 𝓜 𝓡 code.env))
-    (cited 𝓤 H (Called 𝓤 H (𝓖 .A) (𝓜 .mem) (𝓡 .run)) 𝓜 𝓡 code.env #runfile·read called-def.routine
-    code.calls-runfile·read
-    (called-thm.met 𝓤 H 𝓜 𝓖 𝓡)))
+    closes 𝓤 H 𝓜 𝓖 𝓡 parameters (plain (λ _. L.the-row)) (lend.clauses 𝓤 H (𝓖 .A) (𝓜 .mem) (𝓡 .run))
+    code.env #lend·read code.function (code.unfolded 𝓤 H 𝓜 𝓡)
+    (λ fm κs qs a g are. needs 𝓤 (a .1 .1 .1 .0 ≤ 64) _ (λ few.
+    walk 𝓤 H (𝓖 .A) (givenOf 𝓤 H 𝓜 𝓖) (𝓜 .mem) (𝓡 .run) (κs .0) (κs .1 .0) (qs .0) (qs .1 .0) (a .1 .1 .1 .0) (a .0)
+    (a .1 .0) (a .1 .1 .0) _ (are .1 .1 .1 .0 .1) (are .0 .0 .1) (are .1 .0 .0 .1) (are .1 .1 .0) few _ _ fm
+    (knows Called called-def.name called-def.routine called-thm.met 𝓤 H 𝓜 𝓖 𝓡 code.env code.calls-runfile·read)))

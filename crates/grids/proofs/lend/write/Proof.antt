@@ -14,17 +14,17 @@ use base.Logic.{SProp, ent}
 use base.Fml.{Lft, GName, Share, Fml, ftrue, flft}
 use prog.Memory.{Memory}
 use prog.Routine.{Routine}
-use prog.Wp.{Heap, Calls, Loops, WpFn, Tables}
+use prog.Wp.{Heap, Calls, Loops, WpFn}
 use ghost.Atoms.{Atoms}
 use contract.Lifetimes.{Lfts}
 use contract.Monad.{Fun}
-use contract.Running.{givenOf, tables, tablesOf}
+use contract.Running.{givenOf, tablesOf}
 use types.Kit.{Given, Item, ‵, raw, _⊛_, some, later, mean, ⋆, _$_, _∵_, !, qed, by, move, keep, drop, group, split}
 use types.Kit.{join, pick, learn, fsplit, fjoin, feqL, suffices, frame, await, updating, now as at-once, show, done}
 use types.Run.{look, init, stop, hop, fld, from, load, addr, of-opd, and-then, no-more, assigns, land, returns, enter}
-use types.Run.{alloc1, alloc0, params1, pass1, pass0, free0}
+use types.Run.{params1, pass1, pass0, free0}
 use types.Part.{agg, whole, sub, look-in}
-use sound.WpLaws.{FmC, fmOf, WpFn-mono}
+use sound.WpLaws.{FmC}
 use denote.RattleType.{owns}
 use denote.Laws.{Is}
 use denote.Plain.{uint-makes}
@@ -33,23 +33,24 @@ use denote.Ref.{RefT}
 use denote.Slice.{sliceVal, MutSlice, ShrSlice, Room}
 use denote.Steps.{owned, nothing}
 use denote.Enum.Laws as EL
-use denote.Triple.Statement.{Contract, Triple}
+use denote.Triple.Statement.{Triple}
 use denote.Triple.Clauses.{Lasts, lasts, atExit}
 use denote.Triple.Entry.{onEntry}
-use denote.Triple.Spec.{Meets, tripleOf}
-use denote.Triple.Table.{entered, cited}
-use denote.Triple.Walked.{needs, Stays, walkOf, Walks, ends-at, walked, walk-meets}
+use denote.Triple.Spec.{tripleOf}
+use denote.Triple.Walked.{needs, Stays, walkOf, ends-at}
+use denote.Signature.{plain}
 use Rattle.record.specs.declared.Peak.{Peak}
 use Rattle.layout.specs.declared.Written.{Written}
 use Rattle.layout.proofs.Written as S
 use Rattle.layout.proofs.Written.Laws as S′
-use Rattle.table.proofs.Locals.{localAt, copied, release}
+use Rattle.table.proofs.Walks.{Promise, closes, knows}
+use Rattle.table.proofs.Parameters.{Parameter, Spent, mutable, none, number, shared, spends, stays}
+use Rattle.table.proofs.Locals.{localAt, copied}
+use Rattle.table.proofs.Frame.{allocated, releases}
 use Rattle.runfile.proofs.write as called
 use Rattle.runfile.proofs.write.Symbol as called-def
 use Rattle.runfile.proofs.write.Symbol.{name as #runfile·write}
 use Rattle.runfile.proofs.write.Met as called-thm
-use Rattle.grids.proofs.Parameters.{Parameter, number, shared, mutable}
-use Rattle.grids.proofs.Parameters.{stays, spells, tells, goes as goes-all, Spent, spends, none}
 use Rattle.grids.proofs.LentRow.{Entries, row, row-typed}
 use Rattle.grids.proofs.LentRow.{rowAt, RowShr, KeptShr, lends-shr, back-shr, calls-lent}
 use Rattle.grids.proofs.lend.write.Key.{name as #lend·write}
@@ -70,8 +71,7 @@ hi = localAt 10
 abbrev lo : ℕ → ℕ → ℕ
 lo = localAt 9
 
-abbrev Called : {M : Type 1} (𝓤 : URA M) (H : Heap 𝓤) (A : Atoms 𝓤) (mem : Memory → SProp 𝓤)
-    (run : Routine → Fun 𝓤) → Contract 𝓤
+abbrev Called : {M : Type 1} → Promise M
 Called 𝓤 H A mem run = tripleOf 𝓤 H A called.signature (called.spec 𝓤 H A mem run)
 
 module _ {M : Type 1} (𝓤 : URA M) (H : Heap 𝓤) (A : Atoms 𝓤) (W : Given 𝓤 H A) (mem : Memory → SProp 𝓤)
@@ -180,8 +180,7 @@ module _ {M : Type 1} (𝓤 : URA M) (H : Heap 𝓤) (A : Atoms 𝓤) (W : Given
         qed W ((‵ (flft κ₀ q₀) ⊛ ‵ (flft κ₁ q₁) ⊛ ‵ ftrue)
         ∷ ‵ (owns (u32 ∷ ShrSlice (named 0) κ₀ i32 ∷ Entries ∷ usize ∷ MutSlice (named 1) κ₁ u8 ∷ []) a vals) ∷ []) ∵
         enter ! C Λ code.function (vint w32 rows ∷ hv ∷ v ∷ vint w64 count ∷ ov ∷ []) _ $
-        alloc1 ! (λ l₀. alloc1 ! (λ l₁. alloc1 ! (λ l₂. alloc1 ! (λ l₃. alloc1 ! (λ l₄. alloc1 ! (λ l₅. alloc1 ! (λ l₆.
-        alloc1 ! (λ l₇. alloc1 ! (λ l₈. alloc1 ! (λ l₉. alloc1 ! (λ l₁₀. alloc0 ! $ params1 ! $
+        allocated ! (λ l. params1 ! $
         pass1 ! (init ! (hi 0 1) refl (tt, record { fits = rows-fits })) $
         pass1 ! (init ! (hi 0 2) refl (tt, (tt, (record { fits = h-room .0 }, tt)))) $
         pass1 ! (init ! (hi 0 3) refl (row-typed 𝓤 H A W xs v xs-is)) $
@@ -205,41 +204,23 @@ module _ {M : Type 1} (𝓤 : URA M) (H : Heap 𝓤) (A : Atoms 𝓤) (W : Given
         (init ! (hi 4 10) refl (tt, (tt, (record { fits = o-room .0 }, tt)))) $ move ! (1 ∷ 0 ∷ 3 ∷ []) $ group ! 4 $
         -- [what is lent; _10; …; _0; …]: the array comes to the front, and behind it what frees it
         move ! (hi 1 6 ∷ 0 ∷ hi 2 6 ∷ []) $
-        calls-lent ! fm (Called 𝓤 H A mem run) known (to-call l₆) Before After
-        S.the-row l₆ v (RowShr l₆ count xs (named 1)) (KeptShr l₆ count xs) (λ δ. ftrue)
-        (lends-shr l₆ count xs 𝓤 H A W (named 1) v xs-is few) (back-shr l₆ count xs 𝓤 H A W (xs-is .1 .0 .1))
-        (goes l₆) (gives l₆) (λ ν δ. and-then ! (copied ! (lo 3 1) refl) (and-then ! (copied ! (lo 3 2) refl)
+        calls-lent ! fm (Called 𝓤 H A mem run) known (to-call (l 6)) Before After
+        S.the-row (l 6) v (RowShr (l 6) count xs (named 1)) (KeptShr (l 6) count xs) (λ δ. ftrue)
+        (lends-shr (l 6) count xs 𝓤 H A W (named 1) v xs-is few) (back-shr (l 6) count xs 𝓤 H A W (xs-is .1 .0 .1))
+        (goes (l 6)) (gives (l 6)) (λ ν δ. and-then ! (copied ! (lo 3 1) refl) (and-then ! (copied ! (lo 3 2) refl)
         (and-then ! (copied ! (hi 3 8) refl) (and-then ! (copied ! (hi 3 10) refl) (no-more !))))) (λ r u is ys z ys-is.
         land ! (from ! (stop !)) (init ! (lo 3 0) refl (EL.lawful S.the-type S′.the-laws 𝓤 H A W tt .typed r _ is .0)) $
-        returns ! (look ! (lo 3 0) refl) $ release ! (lo 3 0) refl refl $ release ! (lo 3 1) refl refl $
-        release ! (lo 3 2) refl refl $ release ! (lo 3 3) refl refl $ release ! (lo 3 4) refl refl $
-        release ! (lo 3 5) refl refl $ release ! 1 refl refl $ release ! (hi 1 7) refl refl $
-        release ! (hi 1 8) refl refl $ release ! (hi 1 9) refl refl $ release ! (hi 1 10) refl refl $ free0 ! $
-        by ! (exits r u is)))))))))))))
-
-module _ {M : Type 1} (𝓤 : URA M) (H : Heap 𝓤) (A : Atoms 𝓤) (W : Given 𝓤 H A) (mem : Memory → SProp 𝓤)
-    (run : Routine → Fun 𝓤) (𝓣 : Tables 𝓤 H) (known : Triple 𝓤 (𝓣 .C #runfile·write) (Called 𝓤 H A mem run)) where
-  write-walks : Walks 𝓤 H A lend.ended stayed (WpFn 𝓤 H (𝓣 .C) (𝓣 .Λ) code.function) (lend.clauses 𝓤 H A mem run)
-  write-walks =
-      walked 𝓤 H A lend.ended stayed (lend.clauses 𝓤 H A mem run) (WpFn 𝓤 H (𝓣 .C) (𝓣 .Λ) code.function)
-      (spells parameters) (tells parameters)
-      (λ κs qs bounds a g are. needs 𝓤 (a .1 .1 .1 .0 ≤ 64) _ (λ few.
-      walk 𝓤 H A W mem run (κs .0) (κs .1 .0) (qs .0) (qs .1 .0) (a .0) (a .1 .1 .1 .0) (a .1 .0) (a .1 .1 .1 .1 .0)
-      (a .1 .1 .0) _ (are .0 .1) (are .1 .1 .1 .0 .1) (are .1 .0 .0 .1) (are .1 .1 .1 .1 .0 .0 .1) (are .1 .1 .0) few
-      (𝓣 .C) (𝓣 .Λ) (fmOf 𝓤 H (W .laws) 𝓣) known))
-
-  write-meets : Meets 𝓤 H A lend.signature (WpFn 𝓤 H (𝓣 .C) (𝓣 .Λ) code.function) (lend.spec 𝓤 H A mem run)
-  write-meets =
-      walk-meets 𝓤 H A lend.ended stayed W (goes-all 𝓤 H A W parameters)
-      (lend.clauses 𝓤 H A mem run) (WpFn 𝓤 H (𝓣 .C) (𝓣 .Λ) code.function)
-      (WpFn-mono 𝓤 H (W .laws) 𝓣 code.function) write-walks
+        returns ! (look ! (lo 3 0) refl) $ releases ! (lo 3 0) 6 refl $ releases ! 1 1 refl $
+        releases ! (hi 1 7) 4 refl $ free0 ! $
+        by ! (exits r u is)))
 
 pub write-spec : {M : Type 1} → stated.statement M
 unfolding code.routine tablesOf
 write-spec 𝓤 H 𝓜 𝓖 𝓡 =
-    entered 𝓤 H (tripleOf 𝓤 H (𝓖 .A) lend.signature (lend.spec 𝓤 H (𝓖 .A) (𝓜 .mem) (𝓡 .run)))
-    (tables 𝓤 H 𝓜 𝓡 code.env .C) (tables 𝓤 H 𝓜 𝓡 code.env .Λ) #lend·write code.function (code.unfolded 𝓤 H 𝓜 𝓡)
-    (write-meets 𝓤 H (𝓖 .A) (givenOf 𝓤 H 𝓜 𝓖) (𝓜 .mem) (𝓡 .run) (tablesOf 𝓤 H 𝓜 (tables 𝓤 H 𝓜 𝓡 code.env))
-    (cited 𝓤 H (Called 𝓤 H (𝓖 .A) (𝓜 .mem) (𝓡 .run)) 𝓜 𝓡 code.env #runfile·write called-def.routine
-    code.calls-runfile·write
-    (called-thm.met 𝓤 H 𝓜 𝓖 𝓡)))
+    closes 𝓤 H 𝓜 𝓖 𝓡 parameters (plain (λ _. S.the-row)) (lend.clauses 𝓤 H (𝓖 .A) (𝓜 .mem) (𝓡 .run))
+    code.env #lend·write code.function (code.unfolded 𝓤 H 𝓜 𝓡)
+    (λ fm κs qs a g are. needs 𝓤 (a .1 .1 .1 .0 ≤ 64) _ (λ few.
+    walk 𝓤 H (𝓖 .A) (givenOf 𝓤 H 𝓜 𝓖) (𝓜 .mem) (𝓡 .run) (κs .0) (κs .1 .0) (qs .0) (qs .1 .0) (a .0) (a .1 .1 .1 .0)
+    (a .1 .0) (a .1 .1 .1 .1 .0) (a .1 .1 .0) _ (are .0 .1) (are .1 .1 .1 .0 .1) (are .1 .0 .0 .1)
+    (are .1 .1 .1 .1 .0 .0 .1) (are .1 .1 .0) few _ _ fm
+    (knows Called called-def.name called-def.routine called-thm.met 𝓤 H 𝓜 𝓖 𝓡 code.env code.calls-runfile·write)))

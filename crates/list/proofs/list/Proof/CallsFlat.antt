@@ -17,13 +17,11 @@ use mir.Val.{Val, vint}
 use base.Logic.{SProp, ent, sep, ex, id⊢}
 use base.Fml.{Lft, GName, Share, Fml, ftrue, flft}
 use prog.Memory.{Memory}
-use prog.Model.{Model}
-use prog.Routine.{Routine, Env as Routines}
+use prog.Routine.{Routine}
 use prog.Wp.{Heap, Env, Calls, Loops}
 use ghost.Atoms.{Atoms, sem}
 use contract.Lifetimes.{Lfts}
 use contract.Monad.{Fun, fact}
-use contract.Running.{Running, GhostRules, tables}
 use types.Kit.{Given, Item, ‵, raw, _⊛_, some, later, ⋆, Post, Seq, runs, lands, _$_, _∵_, !, qed, move, keep, drop}
 use types.Kit.{group, use1, use2, use3, split, join, pick, fsplit, fjoin, feqL, frame, await, show, done}
 use types.Run.{Opds}
@@ -35,14 +33,14 @@ use denote.Builtin.{u8, u32, usize, i32}
 use denote.Ref.{RefT}
 use denote.Slice.{sliceVal, MutSlice, ShrSlice, Room, finally, shr-slice-copy}
 use denote.Steps.{owned, facts, heard, nothing}
-use denote.Triple.Statement.{Contract, Triple}
+use denote.Triple.Statement.{Triple}
 use denote.Triple.Call.{calls-at}
 use denote.Triple.Clauses.{Lasts, ensured, lasts}
 use denote.Triple.Spec.{tripleOf}
-use denote.Triple.Table.{cited}
 use denote.Triple.Walked.{says}
 use Rattle.record.specs.declared.Handed.{Handed}
 use Rattle.record.proofs.Handed as S
+use Rattle.table.proofs.Walks.{Known, Promise, knows}
 use Rattle.table.proofs.LentAgain.{LentMut, lends-again, comes-back}
 use Rattle.list.specs.Inner.{ListsFlat}
 use Rattle.list.proofs.flat as flat
@@ -50,16 +48,11 @@ use Rattle.list.proofs.flat.Symbol as flat-def
 use Rattle.list.proofs.flat.Symbol.{name as #list·flat}
 use Rattle.list.proofs.flat.Met as flat-thm
 
-abbrev pub FlatCall : {M : Type 1} (𝓤 : URA M) (H : Heap 𝓤) (A : Atoms 𝓤) (mem : Memory → SProp 𝓤)
-    (run : Routine → Fun 𝓤) → Contract 𝓤
+abbrev pub FlatCall : {M : Type 1} → Promise M
 FlatCall 𝓤 H A mem run = tripleOf 𝓤 H A flat.signature (flat.spec 𝓤 H A mem run)
 
-pub flat-known : {M : Type 1} (𝓤 : URA M) (H : Heap 𝓤) (𝓜 : Model 𝓤 H) (𝓖 : GhostRules 𝓤 H) (𝓡 : Running 𝓤 H 𝓜)
-    (env : Routines) → env #list·flat ≡ flat-def.routine
-    → Triple 𝓤 (tables 𝓤 H 𝓜 𝓡 env .C #list·flat) (FlatCall 𝓤 H (𝓖 .A) (𝓜 .mem) (𝓡 .run))
-flat-known 𝓤 H 𝓜 𝓖 𝓡 env e =
-    cited 𝓤 H (FlatCall 𝓤 H (𝓖 .A) (𝓜 .mem) (𝓡 .run)) 𝓜 𝓡 env #list·flat flat-def.routine e
-    (flat-thm.met 𝓤 H 𝓜 𝓖 𝓡)
+pub flat-known : {M : Type 1} → Known M FlatCall #list·flat flat-def.routine
+flat-known = knows FlatCall #list·flat flat-def.routine flat-thm.met
 
 abbrev pub Left : ℕ → List ℤ → ℕ → List ℕ → ℕ → Handed → List ℕ → Type 0
 Left rows heights threshold ys room r zs =

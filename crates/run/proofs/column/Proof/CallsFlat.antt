@@ -20,13 +20,11 @@ use mir.Val.{Val, vint}
 use base.Logic.{SProp, ent, sep, ex, id⊢}
 use base.Fml.{Lft, GName, Share, Fml, ftrue, flft}
 use prog.Memory.{Memory}
-use prog.Model.{Model}
-use prog.Routine.{Routine, Env as Routines}
+use prog.Routine.{Routine}
 use prog.Wp.{Heap, Env, Calls, Loops}
 use ghost.Atoms.{Atoms, sem}
 use contract.Lifetimes.{Lfts}
 use contract.Monad.{Fun, fact}
-use contract.Running.{Running, GhostRules, tables}
 use types.Kit.{Given, Item, ‵, raw, _⊛_, some, later, ⋆, Post, Seq, runs, lands, _$_, _∵_, !, qed, move, keep, drop}
 use types.Kit.{group, use1, use2, use3, split, join, pick, fsplit, fjoin, feqL, frame, await, show, done}
 use types.Run.{Opds}
@@ -39,12 +37,12 @@ use denote.Ref.{RefT}
 use denote.Slice.{sliceVal, MutSlice, ShrSlice, Room, finally, shr-slice-copy}
 use denote.Steps.{owned, facts, heard, nothing}
 use denote.Struct.Laws as LL
-use denote.Triple.Statement.{Contract, Triple}
+use denote.Triple.Statement.{Triple}
 use denote.Triple.Call.{calls-at}
 use denote.Triple.Clauses.{Lasts, ensured, lasts}
 use denote.Triple.Spec.{tripleOf}
-use denote.Triple.Table.{cited}
 use denote.Triple.Walked.{says}
+use Rattle.table.proofs.Walks.{Known, Promise, knows}
 use Rattle.table.proofs.LentAgain.{LentMut, lends-again, comes-back}
 use Rattle.run.specs.declared.Run.{Run}
 use Rattle.run.specs.declared.Step.{Step}
@@ -58,16 +56,11 @@ use Rattle.run.proofs.column_flat.Symbol as flat-def
 use Rattle.run.proofs.column_flat.Symbol.{name as #run·column-flat}
 use Rattle.run.proofs.column_flat.Met as flat-thm
 
-abbrev pub FlatCall : {M : Type 1} (𝓤 : URA M) (H : Heap 𝓤) (A : Atoms 𝓤) (mem : Memory → SProp 𝓤)
-    (run : Routine → Fun 𝓤) → Contract 𝓤
+abbrev pub FlatCall : {M : Type 1} → Promise M
 FlatCall 𝓤 H A mem run = tripleOf 𝓤 H A flat.signature (flat.spec 𝓤 H A mem run)
 
-pub flat-known : {M : Type 1} (𝓤 : URA M) (H : Heap 𝓤) (𝓜 : Model 𝓤 H) (𝓖 : GhostRules 𝓤 H) (𝓡 : Running 𝓤 H 𝓜)
-    (env : Routines) → env #run·column-flat ≡ flat-def.routine
-    → Triple 𝓤 (tables 𝓤 H 𝓜 𝓡 env .C #run·column-flat) (FlatCall 𝓤 H (𝓖 .A) (𝓜 .mem) (𝓡 .run))
-flat-known 𝓤 H 𝓜 𝓖 𝓡 env e =
-    cited 𝓤 H (FlatCall 𝓤 H (𝓖 .A) (𝓜 .mem) (𝓡 .run)) 𝓜 𝓡 env #run·column-flat flat-def.routine e
-    (flat-thm.met 𝓤 H 𝓜 𝓖 𝓡)
+pub flat-known : {M : Type 1} → Known M FlatCall #run·column-flat flat-def.routine
+flat-known = knows FlatCall #run·column-flat flat-def.routine flat-thm.met
 
 abbrev pub Left : Run → List ℤ → List ℤ → List ℕ → ℕ → Step → List ℤ → List ℕ → Type 0
 Left ru column grid ys room r gs zs =
@@ -135,14 +128,14 @@ module _ {M : Type 1} (𝓤 : URA M) (H : Heap 𝓤) (A : Atoms 𝓤) (W : Given
       move ! (1 ∷ 0 ∷ []) $ join ! $ frame ! $ done !
 
   -- what is known of the last lists of the grid and of the work area
-  abbrev Known : Step → List ℤ × List ℕ → Type 0
-  Known r ls = Left ru (c .now) (g .now) ys room r (ls .0) (ls .1)
+  abbrev Kept : Step → List ℤ × List ℕ → Type 0
+  Kept r ls = Left ru (c .now) (g .now) ys room r (ls .0) (ls .1)
 
   -- what it ensures, at these lists
   abbrev Said : GName → Step → List ℤ × List ℕ → SProp 𝓤
   Said δ r ls =
       sep 𝓤 (sep 𝓤 (sem 𝓤 H A (finally i32 (g .name) (ls .0))) (sem 𝓤 H A (finally u8 δ (ls .1))))
-      (fact 𝓤 (Known r ls))
+      (fact 𝓤 (Kept r ls))
 
   -- what its contract says of them
   abbrev Told : Step → List ℤ → List ℕ → Type 0
@@ -167,7 +160,7 @@ module _ {M : Type 1} (𝓤 : URA M) (H : Heap 𝓤) (A : Atoms 𝓤) (W : Given
         → (os : (ν : ℕ) (δ : GName) → Opds K W (raw (FlatCall 𝓤 H A mem run .pre (to-flat ν δ)) ∷ ‵ Offered
         ∷ ‵ (LentMut u8 κ′ (ν ∷ []) q′ γ b o (length ys) δ ys) ∷ Γ) E xs
         (runVal ru ∷ cv ∷ gv ∷ wv ∷ vint w64 room ∷ []))
-        → ((r : Step) (v : Val) → Is U.the-row r (v ∷ []) → (gs : List ℤ) (zs : List ℕ) → Known r (gs, zs)
+        → ((r : Step) (v : Val) → Is U.the-row r (v ∷ []) → (gs : List ℤ) (zs : List ℕ) → Kept r (gs, zs)
         → Seq K W (‵ Offered ∷ ‵ (flft κ₀ q₀) ∷ ‵ (finally i32 (g .name) gs) ∷ ‵ (flft κ q) ∷ ‵ (Work zs)
         ∷ ‵ (flft κ′ q′) ∷ Γ) (lands C Λ E d v rest p))
         → Seq K W (‵ Offered ∷ ‵ (flft κ₀ q₀) ∷ ‵ Grid ∷ ‵ (flft κ q) ∷ ‵ (Work ys) ∷ ‵ (flft κ′ q′) ∷ Γ)
@@ -187,8 +180,8 @@ module _ {M : Type 1} (𝓤 : URA M) (H : Heap 𝓤) (A : Atoms 𝓤) (W : Given
         ⊛ raw (ensured 𝓤 H A flat.ended (flat.clauses 𝓤 H A mem run) (flat-lfts ν) (flat-args δ) tt r)))) (id⊢ 𝓤 _) $
         await k tt $ pick k (λ r. split k $ move k (1 ∷ []) $
         use1 W (some (λ (ls : List ℤ × List ℕ). (‵ (finally i32 (g .name) (ls .0)) ⊛ ‵ (finally u8 δ (ls .1)))
-        ⊛ raw (fact 𝓤 (Known r ls)))) (flat-said ν δ r) $
-        pick k (λ ls. split k $ move k (1 ∷ []) $ heard k (Known r ls) (λ left.
+        ⊛ raw (fact 𝓤 (Kept r ls)))) (flat-said ν δ r) $
+        pick k (λ ls. split k $ move k (1 ∷ []) $ heard k (Kept r ls) (λ left.
         -- [the last lists; the tokens and the step; the column; what is kept of the work area; …]
         split k $ move k (2 ∷ []) $ split k $ move k (1 ∷ []) $
         facts k U.the-row (Is U.the-row) (shows 𝓤 H A U.the-row) r (v ∷ []) (λ is.

@@ -1,11 +1,11 @@
 -- The end of the walk of `first_unsound`: what the function then has makes its promise.
 --     R                   the type of a record
---     stayed              what the function still has of its parameters at the end
+--     parameters          the heights and the row, of which nothing is had at the end
 --     recordsVal, Recs    the machine's value of the row of records, and what the row owns
 --     args, vals          the parameters, and their machine values
 --     Ended               the postcondition of the walk
---     exits               the heights, the row and the tokens make it, where the number returned is as promised
--- The heights, the row and the tokens are as they came. The number fits, and is the index of the first unsound record
+--     exits               the tokens make it, where the number returned is as promised
+-- The tokens are as they came. The number fits, and is the index of the first unsound record
 -- (`FirstUnsound`). Assumes `Given`.
 use mathlib.Core.Path.{refl}
 use mathlib.Core.List.{List, [], _∷_}
@@ -22,29 +22,31 @@ use prog.Routine.{Routine}
 use prog.Wp.{Heap}
 use ghost.Atoms.{Atoms}
 use contract.Monad.{Fun}
-use types.Kit.{Given, ‵, ⋆, _$_, _∵_, !, qed, move, join, fjoin, suffices, frame, done}
+use types.Kit.{Given, ‵, ⋆, _$_, _∵_, !, qed, move, join, suffices, frame, done}
 use denote.RattleType.{RattleType}
 use denote.Laws.{Is}
 use denote.Plain.{uint-makes}
 use denote.Builtin.{i32, usize}
 use denote.Ref.{RefT}
-use denote.Signature.{plain}
 use denote.Slice.{sliceVal, ShrSlice}
 use denote.Steps.{owned, nothing}
-use denote.Triple.Walked.{says, Stays, stay-none-slice, walkOf, ends-at}
+use denote.Triple.Walked.{says, Stays, walkOf, ends-at}
 use denote.Exit.{yes as kept}
 use Rattle.record.specs.declared.Peak.{Peak}
 use Rattle.record.proofs.Peak as T
+use Rattle.table.proofs.Parameters.{Parameter, none, shared, stays}
 use Rattle.sound.specs.Sound.{FirstUnsound}
 use Rattle.runfile.proofs.first_unsound as unsound
-use Rattle.runfile.proofs.first_unsound.Proof.ScanCalls.{heightsVal, Hts}
+use Rattle.runfile.proofs.first_unsound.Proof.ScanCalls.{heightsVal}
 
 abbrev pub R : RattleType
 R = T.the-row
 
-abbrev pub stayed : Stays (unsound.ended .signature .params) (unsound.ended .kept)
-stayed =
-    (stay-none-slice (0 ∷ []) tt (plain (λ _. i32)) kept, (stay-none-slice (1 ∷ []) tt (plain (λ _. R)) kept, tt))
+abbrev pub parameters : List (Parameter 2)
+parameters = shared 0 tt i32 ∷ shared 1 tt R ∷ []
+
+abbrev stayed : Stays (unsound.ended .signature .params) (unsound.ended .kept)
+stayed = stays parameters
 
 abbrev pub recordsVal : RefT (List Peak) → Val
 recordsVal r = sliceVal (r .ptr) (length (r .now))
@@ -68,12 +70,11 @@ module _ (h : RefT (List ℤ)) (r : RefT (List Peak)) where
     Ended = walkOf 𝓤 H A unsound.ended stayed (unsound.clauses 𝓤 H A mem run) .post bound
 
     pub exits : Given 𝓤 H A → (k : ℕ) → k < 2 ^ 64 → FirstUnsound (h .now) (r .now) k
-        → ent 𝓤 (⋆ 𝓤 H A (‵ (flft κ₀ q₀) ∷ ‵ (Hts κ₀ h) ∷ ‵ (flft κ₁ q₁) ∷ ‵ (Recs κ₁ r) ∷ [])) (Ended (vint w64 k))
+        → ent 𝓤 (⋆ 𝓤 H A (‵ (flft κ₀ q₀) ∷ ‵ (flft κ₁ q₁) ∷ [])) (Ended (vint w64 k))
     exits W k fits first =
-        qed W (‵ (flft κ₀ q₀) ∷ ‵ (Hts κ₀ h) ∷ ‵ (flft κ₁ q₁) ∷ ‵ (Recs κ₁ r) ∷ []) ∵
+        qed W (‵ (flft κ₀ q₀) ∷ ‵ (flft κ₁ q₁) ∷ []) ∵
         suffices ! _ (ends-at 𝓤 H A unsound.ended stayed (unsound.clauses 𝓤 H A mem run) W bound (vint w64 k) k
         (tt, (tt, tt)) (tt, (tt, tt))) $
-        says ! first $ nothing ! $ move ! (3 ∷ 0 ∷ []) $ join ! $ move ! (1 ∷ 0 ∷ []) $ join ! $ frame ! $
-        -- [the heights; the records]
-        nothing ! $ move ! (2 ∷ 0 ∷ []) $ fjoin ! $ move ! (1 ∷ 0 ∷ []) $ fjoin ! $
+        says ! first $ nothing ! $ move ! (2 ∷ 0 ∷ []) $ join ! $ move ! (1 ∷ 0 ∷ []) $ join ! $ frame ! $
+        nothing ! $ none ! $ none ! $
         owned ! usize (Is usize) (uint-makes 𝓤 H A W w64) k _ (refl, fits) $ move ! (1 ∷ 0 ∷ []) $ done !

@@ -35,7 +35,7 @@ use denote.Ref.{RefT}
 use denote.Slice.{sliceVal, ShrSlice, shr-slice-copy}
 use denote.Steps.{owned, heard, nothing}
 use denote.Struct.Laws as LL
-use denote.Triple.Statement.{Contract, Triple}
+use denote.Triple.Statement.{Triple}
 use denote.Triple.Call.{calls-at}
 use denote.Triple.Clauses.{ensured, lasts}
 use denote.Triple.Spec.{tripleOf}
@@ -43,6 +43,7 @@ use denote.Triple.Walked.{says}
 use Rattle.record.specs.declared.Peak.{Peak}
 use Rattle.record.proofs.Peak as T
 use Rattle.record.proofs.Peak.Laws as T′
+use Rattle.table.proofs.Walks.{Promise}
 use Rattle.table.proofs.Locals.{lands-number, calls-number}
 use Rattle.sound.specs.Inner.{Scans, scannedOf}
 use Rattle.sound.proofs.scan as scan
@@ -50,12 +51,11 @@ use Rattle.sound.proofs.scan.Symbol.{name as #sound·scan}
 use Rattle.sound.proofs.scanned as scanned
 use Rattle.sound.proofs.scanned.Symbol.{name as #sound·scanned}
 
-module _ {M : Type 1} (𝓤 : URA M) (H : Heap 𝓤) (A : Atoms 𝓤) (mem : Memory → SProp 𝓤) (run : Routine → Fun 𝓤) where
-  abbrev pub ScanC : Contract 𝓤
-  ScanC = tripleOf 𝓤 H A scan.signature (scan.spec 𝓤 H A mem run)
+abbrev pub ScanC : {M : Type 1} → Promise M
+ScanC 𝓤 H A mem run = tripleOf 𝓤 H A scan.signature (scan.spec 𝓤 H A mem run)
 
-  abbrev pub ScannedC : Contract 𝓤
-  ScannedC = tripleOf 𝓤 H A scanned.signature (scanned.spec 𝓤 H A mem run)
+abbrev pub ScannedC : {M : Type 1} → Promise M
+ScannedC 𝓤 H A mem run = tripleOf 𝓤 H A scanned.signature (scanned.spec 𝓤 H A mem run)
 
 abbrev pub heightsVal : RefT (List ℤ) → Val
 heightsVal h = sliceVal (h .ptr) (length (h .now))

@@ -30,11 +30,11 @@ use prog.Routine.{Routine}
 use prog.Wp.{Heap, Out, Env, afterSeq, afterBlock, afterTurn, Calls, Loops, Wp, atReturn, WpFn, Tables}
 use ghost.Atoms.{Atoms}
 use contract.Monad.{Fun}
-use types.Kit.{Given, Item, ‵, _⊛_, Sq, runs, anyQ, atRet, _$_, _∵_, !, qed, by, move, drop, use1, split, rewrite}
+use types.Kit.{Given, Item, ‵, _⊛_, Sq, runs, anyQ, atRet, _$_, _∵_, !, qed, by, move, drop, use1, split, rewrite, keep}
 use types.Kit.{fsplit}
 use types.Run.{look, look-raw, store, init, forget, stop, hop, fld, from, load, lit, of-opd, bin, and-then, no-more}
-use types.Run.{assigns, assigns-last, first, blocks, stays, leaves-loop, land, returns, enter, alloc1, alloc0, params1}
-use types.Run.{pass1, pass0, free1, free0, exec, Below, again, loops}
+use types.Run.{assigns, assigns-last, first, blocks, stays, leaves-loop, land, returns, enter, params1}
+use types.Run.{pass1, pass0, free0, exec, Below, again, loops}
 use types.Share.{arr-parts}
 use types.Part.{whole, sub, look-in}
 use sound.WpLaws.{fmOf}
@@ -53,7 +53,8 @@ use Rattle.record.specs.declared.Peak.{Peak}
 use Rattle.record.proofs.Peak as T
 use Rattle.record.proofs.Peak.Laws as T′
 use Rattle.record.specs.Records.{withoutKey}
-use Rattle.table.proofs.Locals.{localAt, copied, release}
+use Rattle.table.proofs.Locals.{localAt, copied}
+use Rattle.table.proofs.Frame.{allocated, releases}
 use Rattle.table.proofs.Upto.{bytes-fit}
 use Rattle.sound.specs.Sound.{ithOf}
 use Rattle.sound.specs.Inner.{scannedOf}
@@ -108,7 +109,7 @@ module _ {M : Type 1} (𝓤 : URA M) (H : Heap 𝓤) (A : Atoms 𝓤) (W : Given
 
   module _ (𝓣 : Tables 𝓤 H) (known-scan : Triple 𝓤 (𝓣 .C #sound·scan) (ScanC 𝓤 H A mem run))
       (known-scanned : Triple 𝓤 (𝓣 .C #sound·scanned) (ScannedC 𝓤 H A mem run))
-      (l₀ l₁ l₂ l₃ l₄ l₅ l₆ l₇ l₈ l₉ : ℕ) where
+      (l : ℕ → ℕ) where
     abbrev C : Calls 𝓤 H
     C = 𝓣 .C
 
@@ -117,21 +118,22 @@ module _ {M : Type 1} (𝓤 : URA M) (H : Heap 𝓤) (A : Atoms 𝓤) (W : Given
 
     abbrev En : Env 𝓤 H
     En =
-        (word, l₀) ∷ (heights-type, l₁) ∷ (records-type, l₂) ∷ (word, l₃) ∷ (word, l₄) ∷ (word, l₅) ∷ (tyBool, l₆)
-        ∷ (word, l₇) ∷ (tyPtr, l₈) ∷ (T′.mir, l₉) ∷ []
+        (word, l 0) ∷ (heights-type, l 1) ∷ (records-type, l 2) ∷ (word, l 3) ∷ (word, l 4) ∷ (word, l 5) ∷
+        (tyBool, l 6)
+        ∷ (word, l 7) ∷ (tyPtr, l 8) ∷ (T′.mir, l 9) ∷ []
 
     -- the invariant: the heights, the records, and the locals, the last first
     abbrev At : Upto → List (Item 𝓤)
     At t =
         ‵ (flft κ₀ q₀) ∷ ‵ (Hts κ₀ h) ∷ ‵ (flft κ₁ q₁) ∷ ‵ Frac ∷ ‵ (Recs κ₁ r)
-        ∷ ‵ (froom T′.mir l₉ 0) ∷ ‵ (fdies T′.mir l₉) ∷ ‵ (froom tyPtr l₈ 0) ∷ ‵ (fdies tyPtr l₈)
-        ∷ ‵ (froom word l₇ 0) ∷ ‵ (fdies word l₇) ∷ ‵ (froom tyBool l₆ 0) ∷ ‵ (fdies tyBool l₆)
-        ∷ ‵ (fat fullShare word l₅ 0 (vint w64 (t .i))) ∷ ‵ (fdies word l₅)
-        ∷ ‵ (fat fullShare word l₄ 0 (vint w64 (t .state))) ∷ ‵ (fdies word l₄)
-        ∷ ‵ (fat fullShare word l₃ 0 (vint w64 (length ys))) ∷ ‵ (fdies word l₃)
-        ∷ ‵ (fat fullShare records-type l₂ 0 (recordsVal r)) ∷ ‵ (fdies records-type l₂)
-        ∷ ‵ (fat fullShare heights-type l₁ 0 (heightsVal h)) ∷ ‵ (fdies heights-type l₁)
-        ∷ ‵ (froom word l₀ 0) ∷ ‵ (fdies word l₀) ∷ []
+        ∷ ‵ (froom T′.mir (l 9) 0) ∷ ‵ (fdies T′.mir (l 9)) ∷ ‵ (froom tyPtr (l 8) 0) ∷ ‵ (fdies tyPtr (l 8))
+        ∷ ‵ (froom word (l 7) 0) ∷ ‵ (fdies word (l 7)) ∷ ‵ (froom tyBool (l 6) 0) ∷ ‵ (fdies tyBool (l 6))
+        ∷ ‵ (fat fullShare word (l 5) 0 (vint w64 (t .i))) ∷ ‵ (fdies word (l 5))
+        ∷ ‵ (fat fullShare word (l 4) 0 (vint w64 (t .state))) ∷ ‵ (fdies word (l 4))
+        ∷ ‵ (fat fullShare word (l 3) 0 (vint w64 (length ys))) ∷ ‵ (fdies word (l 3))
+        ∷ ‵ (fat fullShare records-type (l 2) 0 (recordsVal r)) ∷ ‵ (fdies records-type (l 2))
+        ∷ ‵ (fat fullShare heights-type (l 1) 0 (heightsVal h)) ∷ ‵ (fdies heights-type (l 1))
+        ∷ ‵ (froom word (l 0) 0) ∷ ‵ (fdies word (l 0)) ∷ []
 
     abbrev Turned : Upto → Out → SProp 𝓤
     Turned t =
@@ -144,14 +146,14 @@ module _ {M : Type 1} (𝓤 : URA M) (H : Heap 𝓤) (A : Atoms 𝓤) (W : Given
     more t less =
         assigns ! (bin ! (copied ! (loc 5 5) refl) (copied ! (loc 5 3) refl) tt) (from ! (stop !))
         (init ! (loc 5 6) refl (tt, tt)) $
-        rewrite ! (loc 5 6) (λ (y : Bool). ‵ (fat fullShare tyBool l₆ 0 (vbool y)))
+        rewrite ! (loc 5 6) (λ (y : Bool). ‵ (fat fullShare tyBool (l 6) 0 (vbool y)))
         (lt-ltb (t .i) (length ys) less) refl $
         stays ! (copied ! (loc 5 6) refl) $
         assigns ! (bin ! (copied ! (loc 5 5) refl) (lit ! tt) (record { fits = bytes }))
         (from ! (stop !)) (init ! (loc 5 7) refl (tt, record { fits = bytes })) $
         assigns ! (bin ! (load ! (from ! (fld ! refl (stop !))) (look-in ! (loc 5 2) (sub ! 0 refl (whole !))))
         (copied ! (loc 5 7) refl) tt) (from ! (stop !)) (init ! (loc 5 8) refl (tt, tt)) $
-        rewrite ! (loc 5 8) (λ (p : ℕ). ‵ (fat fullShare tyPtr l₈ 0 (vptr b p))) (sym (place-is 16 o (t .i))) refl $
+        rewrite ! (loc 5 8) (λ (p : ℕ). ‵ (fat fullShare tyPtr (l 8) 0 (vptr b p))) (sym (place-is 16 o (t .i))) refl $
         -- the i-th record is copied out of the row
         move ! (3 ∷ 2 ∷ []) $
         looks-slice ! tt R (Is R) (shows 𝓤 H A R) (LL.vals T.the-type T′.the-laws) (LL.tells T.the-type T′.the-laws)
@@ -198,7 +200,7 @@ module _ {M : Type 1} (𝓤 : URA M) (H : Heap 𝓤) (A : Atoms 𝓤) (W : Given
     ends t over =
         assigns ! (bin ! (copied ! (loc 5 5) refl) (copied ! (loc 5 3) refl) tt) (from ! (stop !))
         (init ! (loc 5 6) refl (tt, tt)) $
-        rewrite ! (loc 5 6) (λ (y : Bool). ‵ (fat fullShare tyBool l₆ 0 (vbool y)))
+        rewrite ! (loc 5 6) (λ (y : Bool). ‵ (fat fullShare tyBool (l 6) 0 (vbool y)))
         (le-ltb (t .i) (length ys) over) refl $
         leaves-loop ! (copied ! (loc 5 6) refl) $ exec ! C Λ En body.t-5 (atRet En Post) $
         calls-scanned 𝓤 H A W mem run (t .state) (length ys) ! (fmOf 𝓤 H (W .laws) 𝓣) known-scanned (t .fits) (room .0)
@@ -206,10 +208,7 @@ module _ {M : Type 1} (𝓤 : URA M) (H : Heap 𝓤) (A : Atoms 𝓤) (W : Given
         land ! (from ! (stop !)) (init ! (loc 5 0) refl (tt, record { fits = k-fits })) $
         -- [token 0; heights; token 1; the fractured borrow; records; _9; …; _0; …]
         returns ! (look ! (loc 5 0) refl) $
-        release ! (loc 5 0) refl refl $ release ! (loc 5 1) refl refl $ release ! (loc 5 2) refl refl $
-        release ! (loc 5 3) refl refl $ release ! (loc 5 4) refl refl $ release ! (loc 5 5) refl refl $
-        release ! (loc 5 6) refl refl $ move ! (9 ∷ 10 ∷ []) $ free1 ! $ move ! (7 ∷ 8 ∷ []) $ free1 ! $
-        move ! (5 ∷ 6 ∷ []) $ free1 ! $ free0 ! $ move ! (3 ∷ []) $ drop ! $
+        releases ! (loc 5 0) 10 refl $ free0 ! $ keep ! (0 ∷ 2 ∷ []) $
         by ! (exits h r 𝓤 H A mem run κ₀ κ₁ q₀ q₁ W (scannedOf (t .state) (length ys)) k-fits
         (scanned-done (t .scanned) (le-antisymm (t .within) over))))
 
@@ -228,8 +227,7 @@ module _ {M : Type 1} (𝓤 : URA M) (H : Heap 𝓤) (A : Atoms 𝓤) (W : Given
       qed W ((‵ (flft κ₀ q₀) ⊛ ‵ (flft κ₁ q₁) ⊛ ‵ ftrue)
       ∷ ‵ (owns (ShrSlice (named 0) κ₀ i32 ∷ ShrSlice (named 1) κ₁ R ∷ []) (args h r) (vals h r)) ∷ []) ∵
       enter ! (𝓣 .C) (𝓣 .Λ) code.function (heightsVal h ∷ recordsVal r ∷ []) _ $
-      alloc1 ! (λ l₀. alloc1 ! (λ l₁. alloc1 ! (λ l₂. alloc1 ! (λ l₃. alloc1 ! (λ l₄. alloc1 ! (λ l₅. alloc1 ! (λ l₆.
-      alloc1 ! (λ l₇. alloc1 ! (λ l₈. alloc1 ! (λ l₉. alloc0 ! $ params1 ! $
+      allocated ! (λ l. params1 ! $
       pass1 ! (init ! (loc 0 1) refl (tt, (tt, (record { fits = h-room .0 }, tt)))) $
       pass1 ! (init ! (loc 0 2) refl (tt, (tt, (record { fits = room .0 }, tt)))) $ pass0 ! $
       assigns ! (of-opd ! (load ! (from ! (fld ! refl (stop !))) (look-in ! (loc 0 2) (sub ! 1 refl (whole !)))))
@@ -246,5 +244,5 @@ module _ {M : Type 1} (𝓤 : URA M) (H : Heap 𝓤) (A : Atoms 𝓤) (W : Given
       -- [the fractured borrow; records; token 1; token 0; heights; _9; …; _0; …]
       move ! (3 ∷ 4 ∷ 2 ∷ 0 ∷ 1 ∷ []) $
       first ! $ blocks ! $ loops ! 𝓣 (Nearer (h .now) ys) (Nearer-wf (h .now) ys)
-      (At 𝓣 known-scan known-scanned l₀ l₁ l₂ l₃ l₄ l₅ l₆ l₇ l₈ l₉)
-      (turns 𝓣 known-scan known-scanned l₀ l₁ l₂ l₃ l₄ l₅ l₆ l₇ l₈ l₉) (start (h .now) ys)))))))))))
+      (At 𝓣 known-scan known-scanned l)
+      (turns 𝓣 known-scan known-scanned l) (start (h .now) ys))

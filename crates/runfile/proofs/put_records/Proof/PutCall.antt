@@ -34,7 +34,7 @@ use denote.Ref.{RefT}
 use denote.Slice.{sliceVal, MutSlice, Room, finally}
 use denote.Steps.{owned, facts, heard, nothing}
 use denote.Struct.Laws as LL
-use denote.Triple.Statement.{Contract, Triple}
+use denote.Triple.Statement.{Triple}
 use denote.Triple.Call.{calls-at}
 use denote.Triple.Clauses.{Lasts, ensured, lasts}
 use denote.Triple.Spec.{tripleOf}
@@ -42,14 +42,14 @@ use denote.Triple.Walked.{says}
 use Rattle.record.specs.declared.Peak.{Peak}
 use Rattle.record.proofs.Peak as T
 use Rattle.record.proofs.Peak.Laws as T′
+use Rattle.table.proofs.Walks.{Promise}
 use Rattle.table.proofs.LentAgain.{LentMut, lends-again, comes-back}
 use Rattle.layout.specs.Layout.{bytesOf, fieldsOf, totalOf}
 use Rattle.layout.specs.Inner.{over}
 use Rattle.layout.proofs.records.put_record as put-one
 use Rattle.layout.proofs.records.put_record.Symbol.{name as #layout·put-record}
 
-abbrev pub PutOne : {M : Type 1} (𝓤 : URA M) (H : Heap 𝓤) (A : Atoms 𝓤) (mem : Memory → SProp 𝓤)
-    (run : Routine → Fun 𝓤) → Contract 𝓤
+abbrev pub PutOne : {M : Type 1} → Promise M
 PutOne 𝓤 H A mem run = tripleOf 𝓤 H A put-one.signature (put-one.spec 𝓤 H A mem run)
 
 abbrev pub roomRef : ℕ → ℕ → GName → List ℕ → RefT (List ℕ)

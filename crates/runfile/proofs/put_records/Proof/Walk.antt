@@ -28,11 +28,11 @@ use prog.Routine.{Routine}
 use prog.Wp.{Heap, Out, Env, afterSeq, afterBlock, afterTurn, Calls, Loops, Wp, atReturn, WpFn, Tables}
 use ghost.Atoms.{Atoms}
 use contract.Monad.{Fun}
-use types.Kit.{Given, Item, ‵, _⊛_, Sq, runs, anyQ, atRet, _$_, _∵_, !, qed, by, move, drop, use1, split, rewrite}
+use types.Kit.{Given, Item, ‵, _⊛_, Sq, runs, anyQ, atRet, _$_, _∵_, !, qed, by, move, drop, use1, split, rewrite, keep}
 use types.Kit.{fsplit}
 use types.Run.{look, look-raw, store, init, forget, stop, hop, fld, from, load, addr, lit, unit-lit, of-opd, bin}
 use types.Run.{and-then, no-more, assigns, assigns-last, first, blocks, stays, leaves-loop, land, returns, enter}
-use types.Run.{alloc1, alloc0, params1, pass1, pass0, free1, free0, exec, Below, again, loops}
+use types.Run.{params1, pass1, pass0, free0, exec, Below, again, loops}
 use types.Share.{arr-parts}
 use types.Part.{agg, whole, sub, look-in}
 use sound.WpLaws.{fmOf}
@@ -49,7 +49,8 @@ use denote.Triple.Entry.{onEntry}
 use Rattle.record.specs.declared.Peak.{Peak}
 use Rattle.record.proofs.Peak as T
 use Rattle.record.proofs.Peak.Laws as T′
-use Rattle.table.proofs.Locals.{localAt, copied, release}
+use Rattle.table.proofs.Locals.{localAt, copied}
+use Rattle.table.proofs.Frame.{allocated, releases}
 use Rattle.table.proofs.Upto.{Upto, Nearer, Nearer-wf}
 use Rattle.layout.specs.Layout.{totalOf}
 use Rattle.layout.specs.Inner.{Puttable, laid}
@@ -113,7 +114,7 @@ module _ {M : Type 1} (𝓤 : URA M) (H : Heap 𝓤) (A : Atoms 𝓤) (W : Given
   at i = laid ys cells ps i
 
   module _ (𝓣 : Tables 𝓤 H) (known : Triple 𝓤 (𝓣 .C #layout·put-record) (PutOne 𝓤 H A mem run))
-      (l₀ l₁ l₂ l₃ l₄ l₅ l₆ l₇ l₈ l₉ l₁₀ l₁₁ l₁₂ : ℕ) where
+      (l : ℕ → ℕ) where
     abbrev C : Calls 𝓤 H
     C = 𝓣 .C
 
@@ -122,23 +123,24 @@ module _ {M : Type 1} (𝓤 : URA M) (H : Heap 𝓤) (A : Atoms 𝓤) (W : Given
 
     abbrev En : Env 𝓤 H
     En =
-        (tyUnit, l₀) ∷ (room-type, l₁) ∷ (word, l₂) ∷ (records-type, l₃) ∷ (word, l₄) ∷ (word, l₅) ∷ (tyBool, l₆)
-        ∷ (tyUnit, l₇) ∷ (pointer-type, l₈) ∷ (lent-type, l₉) ∷ (word, l₁₀) ∷ (tyPtr, l₁₁) ∷ (T′.mir, l₁₂) ∷ []
+        (tyUnit, l 0) ∷ (room-type, l 1) ∷ (word, l 2) ∷ (records-type, l 3) ∷ (word, l 4) ∷ (word, l 5) ∷ (tyBool, l 6)
+        ∷ (tyUnit, l 7) ∷ (pointer-type, l 8) ∷ (lent-type, l 9) ∷ (word, l 10) ∷ (tyPtr, l 11) ∷ (T′.mir, l 12) ∷ []
 
     -- the invariant: the room with i records, the row of records, and the locals, the last first
     abbrev At : Upto count → List (Item 𝓤)
     At i =
         ‵ (flft κ₀ q₀) ∷ ‵ (Own (at (i .0))) ∷ ‵ (flft κ₁ q₁) ∷ ‵ Frac ∷ ‵ (Recs κ₁ r)
-        ∷ ‵ (froom T′.mir l₁₂ 0) ∷ ‵ (fdies T′.mir l₁₂) ∷ ‵ (froom tyPtr l₁₁ 0) ∷ ‵ (fdies tyPtr l₁₁)
-        ∷ ‵ (froom word l₁₀ 0) ∷ ‵ (fdies word l₁₀) ∷ ‵ (froom lent-type l₉ 0) ∷ ‵ (fdies lent-type l₉)
-        ∷ ‵ (froom pointer-type l₈ 0) ∷ ‵ (fdies pointer-type l₈) ∷ ‵ (froom tyUnit l₇ 0) ∷ ‵ (fdies tyUnit l₇)
-        ∷ ‵ (froom tyBool l₆ 0) ∷ ‵ (fdies tyBool l₆)
-        ∷ ‵ (fat fullShare word l₅ 0 (vint w64 (i .0))) ∷ ‵ (fdies word l₅)
-        ∷ ‵ (fat fullShare word l₄ 0 (vint w64 count)) ∷ ‵ (fdies word l₄)
-        ∷ ‵ (fat fullShare records-type l₃ 0 (recordsVal r)) ∷ ‵ (fdies records-type l₃)
-        ∷ ‵ (fat fullShare word l₂ 0 (vint w64 cells)) ∷ ‵ (fdies word l₂)
-        ∷ ‵ (fat fullShare room-type l₁ 0 wv) ∷ ‵ (fdies room-type l₁)
-        ∷ ‵ (froom tyUnit l₀ 0) ∷ ‵ (fdies tyUnit l₀) ∷ []
+        ∷ ‵ (froom T′.mir (l 12) 0) ∷ ‵ (fdies T′.mir (l 12)) ∷ ‵ (froom tyPtr (l 11) 0) ∷ ‵ (fdies tyPtr (l 11))
+        ∷ ‵ (froom word (l 10) 0) ∷ ‵ (fdies word (l 10)) ∷ ‵ (froom lent-type (l 9) 0) ∷ ‵ (fdies lent-type (l 9))
+        ∷ ‵ (froom pointer-type (l 8) 0) ∷ ‵ (fdies pointer-type (l 8)) ∷ ‵ (froom tyUnit (l 7) 0)
+        ∷ ‵ (fdies tyUnit (l 7))
+        ∷ ‵ (froom tyBool (l 6) 0) ∷ ‵ (fdies tyBool (l 6))
+        ∷ ‵ (fat fullShare word (l 5) 0 (vint w64 (i .0))) ∷ ‵ (fdies word (l 5))
+        ∷ ‵ (fat fullShare word (l 4) 0 (vint w64 count)) ∷ ‵ (fdies word (l 4))
+        ∷ ‵ (fat fullShare records-type (l 3) 0 (recordsVal r)) ∷ ‵ (fdies records-type (l 3))
+        ∷ ‵ (fat fullShare word (l 2) 0 (vint w64 cells)) ∷ ‵ (fdies word (l 2))
+        ∷ ‵ (fat fullShare room-type (l 1) 0 wv) ∷ ‵ (fdies room-type (l 1))
+        ∷ ‵ (froom tyUnit (l 0) 0) ∷ ‵ (fdies tyUnit (l 0)) ∷ []
 
     abbrev Turned : Upto count → Out → SProp 𝓤
     Turned i =
@@ -151,7 +153,7 @@ module _ {M : Type 1} (𝓤 : URA M) (H : Heap 𝓤) (A : Atoms 𝓤) (W : Given
     more i less =
         assigns ! (bin ! (copied ! (loc 5 5) refl) (copied ! (loc 5 4) refl) tt) (from ! (stop !))
         (init ! (loc 5 6) refl (tt, tt)) $
-        rewrite ! (loc 5 6) (λ (y : Bool). ‵ (fat fullShare tyBool l₆ 0 (vbool y))) (lt-ltb (i .0) count less) refl $
+        rewrite ! (loc 5 6) (λ (y : Bool). ‵ (fat fullShare tyBool (l 6) 0 (vbool y))) (lt-ltb (i .0) count less) refl $
         stays ! (copied ! (loc 5 6) refl) $
         assigns ! (addr ! (from ! (fld ! refl (hop ! (look-in ! (loc 5 1) (sub ! 0 refl (whole !))) (stop !)))))
         (from ! (stop !)) (init ! (loc 5 8) refl (tt, tt)) $
@@ -163,7 +165,8 @@ module _ {M : Type 1} (𝓤 : URA M) (H : Heap 𝓤) (A : Atoms 𝓤) (W : Given
         (from ! (stop !)) (init ! (loc 5 10) refl (tt, record { fits = bytes })) $
         assigns ! (bin ! (load ! (from ! (fld ! refl (stop !))) (look-in ! (loc 5 3) (sub ! 0 refl (whole !))))
         (copied ! (loc 5 10) refl) tt) (from ! (stop !)) (init ! (loc 5 11) refl (tt, tt)) $
-        rewrite ! (loc 5 11) (λ (p : ℕ). ‵ (fat fullShare tyPtr l₁₁ 0 (vptr rb p))) (sym (place-is 16 ro (i .0))) refl $
+        rewrite ! (loc 5 11) (λ (p : ℕ). ‵ (fat fullShare tyPtr (l 11) 0 (vptr rb p)))
+        (sym (place-is 16 ro (i .0))) refl $
         -- the i-th record is copied out of the row
         move ! (3 ∷ 2 ∷ []) $
         looks-slice ! tt R (Is R) (shows 𝓤 H A R) (LL.vals T.the-type T′.the-laws) (LL.tells T.the-type T′.the-laws)
@@ -214,16 +217,12 @@ module _ {M : Type 1} (𝓤 : URA M) (H : Heap 𝓤) (A : Atoms 𝓤) (W : Given
     ends i past =
         assigns ! (bin ! (copied ! (loc 5 5) refl) (copied ! (loc 5 4) refl) tt) (from ! (stop !))
         (init ! (loc 5 6) refl (tt, tt)) $
-        rewrite ! (loc 5 6) (λ (y : Bool). ‵ (fat fullShare tyBool l₆ 0 (vbool y))) (le-ltb (i .0) count past) refl $
+        rewrite ! (loc 5 6) (λ (y : Bool). ‵ (fat fullShare tyBool (l 6) 0 (vbool y))) (le-ltb (i .0) count past) refl $
         leaves-loop ! (copied ! (loc 5 6) refl) $ exec ! C Λ En body.t-3 (atRet En Post) $
         assigns ! (of-opd ! (unit-lit !)) (from ! (stop !)) (init ! (loc 5 0) refl (tt, tt)) $
         returns ! (look ! (loc 5 0) refl) $
-        release ! (loc 5 0) refl refl $ release ! (loc 5 1) refl refl $ release ! (loc 5 2) refl refl $
-        release ! (loc 5 3) refl refl $ release ! (loc 5 4) refl refl $ release ! (loc 5 5) refl refl $
-        release ! (loc 5 6) refl refl $ move ! (15 ∷ 16 ∷ []) $ free1 ! $ move ! (13 ∷ 14 ∷ []) $ free1 ! $
-        move ! (11 ∷ 12 ∷ []) $ free1 ! $ move ! (9 ∷ 10 ∷ []) $ free1 ! $ move ! (7 ∷ 8 ∷ []) $ free1 ! $
-        move ! (5 ∷ 6 ∷ []) $ free1 ! $ free0 ! $ move ! (3 ∷ []) $ drop ! $
-        by ! (exits b o γ ys cells r count 𝓤 H A mem run κ₀ κ₁ q₀ q₁ W cells-fits count-fits (at (i .0))
+        releases ! (loc 5 0) 13 refl $ free0 ! $ keep ! (0 ∷ 1 ∷ 2 ∷ []) $
+        by ! (exits b o γ ys cells r count 𝓤 H A mem run κ₀ κ₁ q₀ q₁ W (at (i .0))
         (at-length can i) (ap at (le-antisymm (i .1) past)))
 
     turns : (i : Upto count) → Sq W (At i) (runs C Λ En body.turn-1 (anyQ (Turned i)))
@@ -242,9 +241,7 @@ module _ {M : Type 1} (𝓤 : URA M) (H : Heap 𝓤) (A : Atoms 𝓤) (W : Given
       ∷ ‵ (owns (MutSlice (named 0) κ₀ u8 ∷ usize ∷ ShrSlice (named 1) κ₁ R ∷ usize ∷ [])
       (args b o γ ys cells r count) (vals b o γ ys cells r count)) ∷ []) ∵
       enter ! (𝓣 .C) (𝓣 .Λ) code.function (wv ∷ vint w64 cells ∷ recordsVal r ∷ vint w64 count ∷ []) _ $
-      alloc1 ! (λ l₀. alloc1 ! (λ l₁. alloc1 ! (λ l₂. alloc1 ! (λ l₃. alloc1 ! (λ l₄. alloc1 ! (λ l₅. alloc1 ! (λ l₆.
-      alloc1 ! (λ l₇. alloc1 ! (λ l₈. alloc1 ! (λ l₉. alloc1 ! (λ l₁₀. alloc1 ! (λ l₁₁. alloc1 ! (λ l₁₂.
-      alloc0 ! $ params1 ! $
+      allocated ! (λ l. params1 ! $
       pass1 ! (init ! (loc 0 1) refl (tt, (tt, (record { fits = room .0 }, tt)))) $
       pass1 ! (init ! (loc 0 2) refl (tt, record { fits = cells-fits })) $
       pass1 ! (init ! (loc 0 3) refl (tt, (tt, (record { fits = records-room .0 }, tt)))) $
@@ -261,5 +258,5 @@ module _ {M : Type 1} (𝓤 : URA M) (H : Heap 𝓤) (A : Atoms 𝓤) (W : Given
       move ! (3 ∷ 4 ∷ 2 ∷ 0 ∷ 1 ∷ []) $
       rewrite ! 1 (λ (l : List ℕ). ‵ (Own l)) (sym (laid-start ys cells ps)) refl $
       first ! $ blocks ! $ loops ! 𝓣 (Nearer count) (Nearer-wf count)
-      (At 𝓣 known l₀ l₁ l₂ l₃ l₄ l₅ l₆ l₇ l₈ l₉ l₁₀ l₁₁ l₁₂)
-      (turns 𝓣 known l₀ l₁ l₂ l₃ l₄ l₅ l₆ l₇ l₈ l₉ l₁₀ l₁₁ l₁₂) (0, zero-le))))))))))))))
+      (At 𝓣 known l)
+      (turns 𝓣 known l) (0, zero-le))

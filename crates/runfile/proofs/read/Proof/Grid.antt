@@ -18,13 +18,11 @@ use mir.Val.{Val, vint}
 use base.Logic.{SProp, ent, ex, id⊢}
 use base.Fml.{Lft, Share, Fml, flft}
 use prog.Memory.{Memory}
-use prog.Model.{Model}
-use prog.Routine.{Routine, Env as Routines}
+use prog.Routine.{Routine}
 use prog.Wp.{Heap, Env, Calls, Loops}
 use ghost.Atoms.{Atoms}
 use contract.Lifetimes.{Lfts}
 use contract.Monad.{Fun, fact}
-use contract.Running.{Running, GhostRules, tables}
 use types.Kit.{Given, Item, ‵, raw, _⊛_, some, ⋆, Post, Seq, runs, lands, _$_, _∵_, !, qed, move, keep, drop, split}
 use types.Kit.{join, pick, fsplit, fjoin, feqL, frame, show, done}
 use types.Run.{Opds}
@@ -35,10 +33,9 @@ use denote.Builtin.{u8, usize, i32}
 use denote.Ref.{RefT}
 use denote.Slice.{finally}
 use denote.Steps.{owned, heard, nothing}
-use denote.Triple.Statement.{Contract, Triple}
+use denote.Triple.Statement.{Triple}
 use denote.Triple.Clauses.{Lasts, ensured, lasts}
 use denote.Triple.Spec.{tripleOf}
-use denote.Triple.Table.{cited}
 use denote.Triple.Walked.{says}
 use Rattle.layout.specs.declared.ReadBack.{ReadBack}
 use Rattle.layout.specs.Inner.{GridTaken}
@@ -48,17 +45,13 @@ use Rattle.layout.proofs.reader.take_grid.Symbol as grid-def
 use Rattle.layout.proofs.reader.take_grid.Symbol.{name as #layout·take-grid}
 use Rattle.layout.proofs.reader.take_grid.Met as grid-thm
 use Rattle.runfile.proofs.Slices.{valueOf, OwnShr, OwnMut, copies, Leaves, calls-leaves}
+use Rattle.table.proofs.Walks.{Known, Promise, knows}
 
-abbrev pub TakeGrid : {M : Type 1} (𝓤 : URA M) (H : Heap 𝓤) (A : Atoms 𝓤) (mem : Memory → SProp 𝓤)
-    (run : Routine → Fun 𝓤) → Contract 𝓤
+abbrev pub TakeGrid : {M : Type 1} → Promise M
 TakeGrid 𝓤 H A mem run = tripleOf 𝓤 H A grid.signature (grid.spec 𝓤 H A mem run)
 
-pub grid-known : {M : Type 1} (𝓤 : URA M) (H : Heap 𝓤) (𝓜 : Model 𝓤 H) (𝓖 : GhostRules 𝓤 H) (𝓡 : Running 𝓤 H 𝓜)
-    (env : Routines) → env #layout·take-grid ≡ grid-def.routine
-    → Triple 𝓤 (tables 𝓤 H 𝓜 𝓡 env .C #layout·take-grid) (TakeGrid 𝓤 H (𝓖 .A) (𝓜 .mem) (𝓡 .run))
-grid-known 𝓤 H 𝓜 𝓖 𝓡 env e =
-    cited 𝓤 H (TakeGrid 𝓤 H (𝓖 .A) (𝓜 .mem) (𝓡 .run)) 𝓜 𝓡 env #layout·take-grid grid-def.routine e
-    (grid-thm.met 𝓤 H 𝓜 𝓖 𝓡)
+pub grid-known : {M : Type 1} → Known M TakeGrid #layout·take-grid grid-def.routine
+grid-known = knows TakeGrid #layout·take-grid grid-def.routine grid-thm.met
 
 abbrev pub GridLeft : List ℕ → List ℤ → ℕ → ReadBack → List ℤ → Type 0
 GridLeft file heights room r zs = (length zs ≡ length heights) × GridTaken file heights zs room r

@@ -13,12 +13,10 @@ use mir.Syntax.{Opd as Operand, Place, Body, w64, seq, call}
 use mir.Val.{Val, vint}
 use base.Logic.{SProp, ent, emp, snd∗, exE, id⊢}
 use prog.Memory.{Memory}
-use prog.Model.{Model}
-use prog.Routine.{Routine, Env as Routines}
+use prog.Routine.{Routine}
 use prog.Wp.{Heap, Env, Calls, Loops}
 use ghost.Atoms.{Atoms, sem}
 use contract.Monad.{Fun, fact}
-use contract.Running.{Running, GhostRules, tables}
 use types.Kit.{Given, Item, raw, Post, Seq, runs, lands, _$_, _∵_, !, qed}
 use types.Kit.{join, fjoin, frame, done}
 use types.Run.{Opds}
@@ -26,10 +24,10 @@ use sound.WpLaws.{FmC}
 use denote.Laws.{Is}
 use denote.Steps.{owned, nothing}
 use denote.Enum.Laws as EL
-use denote.Triple.Statement.{Contract, Triple}
+use denote.Triple.Statement.{Triple}
 use denote.Triple.Clauses.{ensured, lasts}
 use denote.Triple.Spec.{tripleOf}
-use denote.Triple.Table.{cited}
+use Rattle.table.proofs.Walks.{Known, Promise, knows}
 use Rattle.table.proofs.Locals.{calls-number}
 use Rattle.layout.specs.declared.ReadBack.{ReadBack}
 use Rattle.layout.specs.Inner.{cellsToTake, recordsToTake}
@@ -44,26 +42,17 @@ use Rattle.layout.proofs.reader.records_to_take.Symbol as count-of-def
 use Rattle.layout.proofs.reader.records_to_take.Symbol.{name as #layout·records-to-take}
 use Rattle.layout.proofs.reader.records_to_take.Met as count-of-thm
 
-module _ {M : Type 1} (𝓤 : URA M) (H : Heap 𝓤) (A : Atoms 𝓤) (mem : Memory → SProp 𝓤) (run : Routine → Fun 𝓤) where
-  abbrev pub CellsToTake : Contract 𝓤
-  CellsToTake = tripleOf 𝓤 H A cells-of.signature (cells-of.spec 𝓤 H A mem run)
+abbrev pub CellsToTake : {M : Type 1} → Promise M
+CellsToTake 𝓤 H A mem run = tripleOf 𝓤 H A cells-of.signature (cells-of.spec 𝓤 H A mem run)
 
-  abbrev pub RecordsToTake : Contract 𝓤
-  RecordsToTake = tripleOf 𝓤 H A count-of.signature (count-of.spec 𝓤 H A mem run)
+pub cells-known : {M : Type 1} → Known M CellsToTake #layout·cells-to-take cells-of-def.routine
+cells-known = knows CellsToTake #layout·cells-to-take cells-of-def.routine cells-of-thm.met
 
-module _ {M : Type 1} (𝓤 : URA M) (H : Heap 𝓤) (𝓜 : Model 𝓤 H) (𝓖 : GhostRules 𝓤 H) (𝓡 : Running 𝓤 H 𝓜)
-    (env : Routines) where
-  pub cells-known : env #layout·cells-to-take ≡ cells-of-def.routine
-      → Triple 𝓤 (tables 𝓤 H 𝓜 𝓡 env .C #layout·cells-to-take) (CellsToTake 𝓤 H (𝓖 .A) (𝓜 .mem) (𝓡 .run))
-  cells-known e =
-      cited 𝓤 H (CellsToTake 𝓤 H (𝓖 .A) (𝓜 .mem) (𝓡 .run)) 𝓜 𝓡 env #layout·cells-to-take cells-of-def.routine e
-      (cells-of-thm.met 𝓤 H 𝓜 𝓖 𝓡)
+abbrev pub RecordsToTake : {M : Type 1} → Promise M
+RecordsToTake 𝓤 H A mem run = tripleOf 𝓤 H A count-of.signature (count-of.spec 𝓤 H A mem run)
 
-  pub records-known : env #layout·records-to-take ≡ count-of-def.routine
-      → Triple 𝓤 (tables 𝓤 H 𝓜 𝓡 env .C #layout·records-to-take) (RecordsToTake 𝓤 H (𝓖 .A) (𝓜 .mem) (𝓡 .run))
-  records-known e =
-      cited 𝓤 H (RecordsToTake 𝓤 H (𝓖 .A) (𝓜 .mem) (𝓡 .run)) 𝓜 𝓡 env #layout·records-to-take count-of-def.routine e
-      (count-of-thm.met 𝓤 H 𝓜 𝓖 𝓡)
+pub records-known : {M : Type 1} → Known M RecordsToTake #layout·records-to-take count-of-def.routine
+records-known = knows RecordsToTake #layout·records-to-take count-of-def.routine count-of-thm.met
 
 module _ {M : Type 1} (𝓤 : URA M) (H : Heap 𝓤) (A : Atoms 𝓤) (W : Given 𝓤 H A) (mem : Memory → SProp 𝓤)
     (run : Routine → Fun 𝓤) (r : ReadBack) (u : Val) (is : Is S.the-row r (u ∷ [])) where

@@ -18,13 +18,11 @@ use mir.Val.{Val, vint, hasTy, WT}
 use base.Logic.{SProp, ent, ex, id⊢}
 use base.Fml.{Lft, Share, Fml, flft}
 use prog.Memory.{Memory}
-use prog.Model.{Model}
-use prog.Routine.{Routine, Env as Routines}
+use prog.Routine.{Routine}
 use prog.Wp.{Heap, Env, Calls, Loops}
 use ghost.Atoms.{Atoms}
 use contract.Lifetimes.{Lfts}
 use contract.Monad.{Fun, fact}
-use contract.Running.{Running, GhostRules, tables}
 use types.Kit.{Given, Item, ‵, raw, _⊛_, some, ⋆, Post, Seq, runs, lands, _$_, _∵_, !, qed, move, keep, split}
 use types.Kit.{join, pick, fsplit, fjoin, feqL, frame, show, done}
 use types.Run.{Opds}
@@ -36,13 +34,13 @@ use denote.Builtin.{u8, usize, unit}
 use denote.Ref.{RefT}
 use denote.Slice.{finally}
 use denote.Steps.{owned, heard, nothing}
-use denote.Triple.Statement.{Contract, Triple}
+use denote.Triple.Statement.{Triple}
 use denote.Triple.Clauses.{Lasts, ensured, lasts}
 use denote.Triple.Spec.{tripleOf}
-use denote.Triple.Table.{cited}
 use denote.Triple.Walked.{says}
 use Rattle.record.specs.declared.Peak.{Peak}
 use Rattle.record.proofs.Peak as T
+use Rattle.table.proofs.Walks.{Known, Promise, knows}
 use Rattle.layout.specs.Inner.{Takable, filledFrom}
 use Rattle.runfile.proofs.Slices.{valueOf, OwnShr, OwnMut, copies, Leaves, calls-leaves}
 use Rattle.runfile.proofs.take_records as take
@@ -50,16 +48,11 @@ use Rattle.runfile.proofs.take_records.Symbol as take-def
 use Rattle.runfile.proofs.take_records.Symbol.{name as #runfile·take-records}
 use Rattle.runfile.proofs.take_records.Met as take-thm
 
-abbrev pub TakeRecords : {M : Type 1} (𝓤 : URA M) (H : Heap 𝓤) (A : Atoms 𝓤) (mem : Memory → SProp 𝓤)
-    (run : Routine → Fun 𝓤) → Contract 𝓤
+abbrev pub TakeRecords : {M : Type 1} → Promise M
 TakeRecords 𝓤 H A mem run = tripleOf 𝓤 H A take.signature (take.spec 𝓤 H A mem run)
 
-pub take-known : {M : Type 1} (𝓤 : URA M) (H : Heap 𝓤) (𝓜 : Model 𝓤 H) (𝓖 : GhostRules 𝓤 H) (𝓡 : Running 𝓤 H 𝓜)
-    (env : Routines) → env #runfile·take-records ≡ take-def.routine
-    → Triple 𝓤 (tables 𝓤 H 𝓜 𝓡 env .C #runfile·take-records) (TakeRecords 𝓤 H (𝓖 .A) (𝓜 .mem) (𝓡 .run))
-take-known 𝓤 H 𝓜 𝓖 𝓡 env e =
-    cited 𝓤 H (TakeRecords 𝓤 H (𝓖 .A) (𝓜 .mem) (𝓡 .run)) 𝓜 𝓡 env #runfile·take-records take-def.routine e
-    (take-thm.met 𝓤 H 𝓜 𝓖 𝓡)
+pub take-known : {M : Type 1} → Known M TakeRecords #runfile·take-records take-def.routine
+take-known = knows TakeRecords #runfile·take-records take-def.routine take-thm.met
 
 abbrev pub TakeLeft : List Peak → List ℕ → ℕ → ℕ → List Peak → Type 0
 TakeLeft table file cells count ts = (length ts ≡ length table) × (ts ≡ filledFrom table file cells count)

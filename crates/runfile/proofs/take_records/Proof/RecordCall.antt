@@ -28,19 +28,19 @@ use denote.Builtin.{u8, usize}
 use denote.Ref.{RefT}
 use denote.Slice.{sliceVal, ShrSlice, shr-slice-copy}
 use denote.Steps.{owned, peeks, heard, nothing}
-use denote.Triple.Statement.{Contract, Triple}
+use denote.Triple.Statement.{Triple}
 use denote.Triple.Call.{calls-at}
 use denote.Triple.Clauses.{ensured, lasts}
 use denote.Triple.Spec.{tripleOf}
 use denote.Triple.Walked.{says}
 use Rattle.record.specs.declared.Peak.{Peak}
 use Rattle.record.proofs.Peak as T
+use Rattle.table.proofs.Walks.{Promise}
 use Rattle.layout.specs.Layout.{recordFrom, totalOf}
 use Rattle.layout.proofs.records.record_from as record-from
 use Rattle.layout.proofs.records.record_from.Symbol.{name as #layout·record-from}
 
-abbrev pub RecordFrom : {M : Type 1} (𝓤 : URA M) (H : Heap 𝓤) (A : Atoms 𝓤) (mem : Memory → SProp 𝓤)
-    (run : Routine → Fun 𝓤) → Contract 𝓤
+abbrev pub RecordFrom : {M : Type 1} → Promise M
 RecordFrom 𝓤 H A mem run = tripleOf 𝓤 H A record-from.signature (record-from.spec 𝓤 H A mem run)
 
 abbrev pub fileVal : RefT (List ℕ) → Val

@@ -31,9 +31,10 @@ use ghost.Atoms.{Atoms}
 use contract.Monad.{Fun}
 use types.Kit.{Given, Item, ‵, _⊛_, Sq, runs, anyQ, atRet, _$_, _∵_, !, qed, by, move, drop, split, rewrite, fsplit}
 use types.Run.{look, store, store-raw, init, forget, stop, hop, fld, from, load, lit, unit-lit, of-opd, bin, and-then}
-use types.Run.{no-more, assigns, assigns-last, first, blocks, stays, leaves-loop, land, returns, enter, alloc1, alloc0}
-use types.Run.{params1, pass1, pass0, free1, free0, exec, Below, again, loops}
+use types.Run.{no-more, assigns, assigns-last, first, blocks, stays, leaves-loop, land, returns, enter}
+use types.Run.{params1, pass1, pass0, free0, exec, Below, again, loops}
 use types.Part.{whole, sub, look-in}
+use types.Kit.{keep}
 use sound.WpLaws.{fmOf}
 use denote.RattleType.{owns}
 use denote.Laws.{Is, shows}
@@ -49,7 +50,8 @@ use denote.Triple.Entry.{onEntry}
 use Rattle.record.specs.declared.Peak.{Peak}
 use Rattle.record.proofs.Peak as T
 use Rattle.record.proofs.Peak.Laws as T′
-use Rattle.table.proofs.Locals.{localAt, copied, release}
+use Rattle.table.proofs.Locals.{localAt, copied}
+use Rattle.table.proofs.Frame.{allocated, releases}
 use Rattle.table.proofs.Upto.{Upto, Nearer, Nearer-wf, bytes-fit, next-fits}
 use Rattle.layout.specs.Layout.{recordFrom}
 use Rattle.layout.specs.Inner.{Takable, filledFrom}
@@ -96,7 +98,7 @@ module _ {M : Type 1} (𝓤 : URA M) (H : Heap 𝓤) (A : Atoms 𝓤) (W : Given
   record-of i = recordFrom (s .now) n (i .0)
 
   module _ (𝓣 : Tables 𝓤 H) (known : Triple 𝓤 (𝓣 .C #layout·record-from) (RecordFrom 𝓤 H A mem run))
-      (l₀ l₁ l₂ l₃ l₄ l₅ l₆ l₇ l₈ l₉ : ℕ) where
+      (l : ℕ → ℕ) where
     abbrev C : Calls 𝓤 H
     C = 𝓣 .C
 
@@ -105,8 +107,8 @@ module _ {M : Type 1} (𝓤 : URA M) (H : Heap 𝓤) (A : Atoms 𝓤) (W : Given
 
     abbrev En : Env 𝓤 H
     En =
-        (tyUnit, l₀) ∷ (table-type, l₁) ∷ (file-type, l₂) ∷ (word, l₃) ∷ (word, l₄) ∷ (word, l₅) ∷ (tyBool, l₆)
-        ∷ (T′.mir, l₇) ∷ (word, l₈) ∷ (tyPtr, l₉) ∷ []
+        (tyUnit, l 0) ∷ (table-type, l 1) ∷ (file-type, l 2) ∷ (word, l 3) ∷ (word, l 4) ∷ (word, l 5) ∷ (tyBool, l 6)
+        ∷ (T′.mir, l 7) ∷ (word, l 8) ∷ (tyPtr, l 9) ∷ []
 
     -- the invariant: the table with i records, its open borrow, the file, and the locals, the last first
     abbrev At : Upto count → List (Item 𝓤)
@@ -114,14 +116,14 @@ module _ {M : Type 1} (𝓤 : URA M) (H : Heap 𝓤) (A : Atoms 𝓤) (W : Given
         ‵ (row R fullShare (at (i .0)) b o) ∷ ‵ (fobor κ q (Held R (length ys) b o γ))
         ∷ ‵ (fobs γ (codedHoleys R .code (heres R ys))) ∷ ‵ (fauth γ (codedHoleys R .code (heres R ys)))
         ∷ ‵ (flft κ′ q′) ∷ ‵ (File κ′ s)
-        ∷ ‵ (froom tyPtr l₉ 0) ∷ ‵ (fdies tyPtr l₉) ∷ ‵ (froom word l₈ 0) ∷ ‵ (fdies word l₈)
-        ∷ ‵ (froom T′.mir l₇ 0) ∷ ‵ (fdies T′.mir l₇) ∷ ‵ (froom tyBool l₆ 0) ∷ ‵ (fdies tyBool l₆)
-        ∷ ‵ (fat fullShare word l₅ 0 (vint w64 (i .0))) ∷ ‵ (fdies word l₅)
-        ∷ ‵ (fat fullShare word l₄ 0 (vint w64 count)) ∷ ‵ (fdies word l₄)
-        ∷ ‵ (fat fullShare word l₃ 0 (vint w64 n)) ∷ ‵ (fdies word l₃)
-        ∷ ‵ (fat fullShare file-type l₂ 0 (fileVal s)) ∷ ‵ (fdies file-type l₂)
-        ∷ ‵ (fat fullShare table-type l₁ 0 tv) ∷ ‵ (fdies table-type l₁)
-        ∷ ‵ (froom tyUnit l₀ 0) ∷ ‵ (fdies tyUnit l₀) ∷ []
+        ∷ ‵ (froom tyPtr (l 9) 0) ∷ ‵ (fdies tyPtr (l 9)) ∷ ‵ (froom word (l 8) 0) ∷ ‵ (fdies word (l 8))
+        ∷ ‵ (froom T′.mir (l 7) 0) ∷ ‵ (fdies T′.mir (l 7)) ∷ ‵ (froom tyBool (l 6) 0) ∷ ‵ (fdies tyBool (l 6))
+        ∷ ‵ (fat fullShare word (l 5) 0 (vint w64 (i .0))) ∷ ‵ (fdies word (l 5))
+        ∷ ‵ (fat fullShare word (l 4) 0 (vint w64 count)) ∷ ‵ (fdies word (l 4))
+        ∷ ‵ (fat fullShare word (l 3) 0 (vint w64 n)) ∷ ‵ (fdies word (l 3))
+        ∷ ‵ (fat fullShare file-type (l 2) 0 (fileVal s)) ∷ ‵ (fdies file-type (l 2))
+        ∷ ‵ (fat fullShare table-type (l 1) 0 tv) ∷ ‵ (fdies table-type (l 1))
+        ∷ ‵ (froom tyUnit (l 0) 0) ∷ ‵ (fdies tyUnit (l 0)) ∷ []
 
     -- a turn's postcondition: it ends nearer to the count, or the loop is left and the rest of the body runs
     abbrev Turned : Upto count → Out → SProp 𝓤
@@ -135,7 +137,7 @@ module _ {M : Type 1} (𝓤 : URA M) (H : Heap 𝓤) (A : Atoms 𝓤) (W : Given
     more i less =
         assigns ! (bin ! (copied ! (loc 6 5) refl) (copied ! (loc 6 4) refl) tt) (from ! (stop !))
         (init ! (loc 6 6) refl (tt, tt)) $
-        rewrite ! (loc 6 6) (λ (t : Bool). ‵ (fat fullShare tyBool l₆ 0 (vbool t))) (lt-ltb (i .0) count less) refl $
+        rewrite ! (loc 6 6) (λ (t : Bool). ‵ (fat fullShare tyBool (l 6) 0 (vbool t))) (lt-ltb (i .0) count less) refl $
         stays ! (copied ! (loc 6 6) refl) $
         move ! (4 ∷ 5 ∷ []) $
         calls-record 𝓤 H A W mem run κ′ q′ s n (i .0) ! (fmOf 𝓤 H (W .laws) 𝓣) known (long can (i .0) less) n-fits
@@ -147,7 +149,7 @@ module _ {M : Type 1} (𝓤 : URA M) (H : Heap 𝓤) (A : Atoms 𝓤) (W : Given
         (from ! (stop !)) (init ! (loc 7 8) refl (tt, record { fits = bytes })) $
         assigns ! (bin ! (load ! (from ! (fld ! refl (stop !))) (look-in ! (loc 7 1) (sub ! 0 refl (whole !))))
         (copied ! (loc 7 8) refl) tt) (from ! (stop !)) (init ! (loc 7 9) refl (tt, tt)) $
-        rewrite ! (loc 7 9) (λ (p : ℕ). ‵ (fat fullShare tyPtr l₉ 0 (vptr b p))) (sym (place-is 16 o (i .0))) refl $
+        rewrite ! (loc 7 9) (λ (p : ℕ). ‵ (fat fullShare tyPtr (l 9) 0 (vptr b p))) (sym (place-is 16 o (i .0))) refl $
         -- the i-th record is taken out of the table, stored to, and put back
         move ! (3 ∷ []) $
         elem-out ! R (Is R) (shows 𝓤 H A R) (LL.vals T.the-type T′.the-laws) (LL.tells T.the-type T′.the-laws) fullShare
@@ -184,17 +186,14 @@ module _ {M : Type 1} (𝓤 : URA M) (H : Heap 𝓤) (A : Atoms 𝓤) (W : Given
     ends i over =
         assigns ! (bin ! (copied ! (loc 6 5) refl) (copied ! (loc 6 4) refl) tt) (from ! (stop !))
         (init ! (loc 6 6) refl (tt, tt)) $
-        rewrite ! (loc 6 6) (λ (t : Bool). ‵ (fat fullShare tyBool l₆ 0 (vbool t))) (le-ltb (i .0) count over) refl $
+        rewrite ! (loc 6 6) (λ (t : Bool). ‵ (fat fullShare tyBool (l 6) 0 (vbool t))) (le-ltb (i .0) count over) refl $
         leaves-loop ! (copied ! (loc 6 6) refl) $ exec ! C Λ En body.t-3 (atRet En Post) $
         assigns ! (of-opd ! (unit-lit !)) (from ! (stop !)) (init ! (loc 6 0) refl (tt, tt)) $
         closes-slice ! tt R ys (at (i .0)) (at-length can i) b o $
         -- [obs; the borrow; the token; the file's token; what it owns; _9; …; _0; …]
         returns ! (look ! (loc 5 0) refl) $
-        release ! (loc 5 0) refl refl $ release ! (loc 5 1) refl refl $ release ! (loc 5 2) refl refl $
-        release ! (loc 5 3) refl refl $ release ! (loc 5 4) refl refl $ release ! (loc 5 5) refl refl $
-        release ! (loc 5 6) refl refl $ move ! (9 ∷ 10 ∷ []) $ free1 ! $ move ! (7 ∷ 8 ∷ []) $ free1 ! $
-        move ! (5 ∷ 6 ∷ []) $ free1 ! $ free0 ! $
-        by ! (exits b o γ ys s n count 𝓤 H A mem run κ κ′ q q′ W n-fits count-fits room (at (i .0)) (at-length can i)
+        releases ! (loc 5 0) 10 refl $ free0 ! $ keep ! (0 ∷ 1 ∷ 2 ∷ 3 ∷ []) $
+        by ! (exits b o γ ys s n count 𝓤 H A mem run κ κ′ q q′ W room (at (i .0)) (at-length can i)
         (ap at (le-antisymm (i .1) over)))
 
     turns : (i : Upto count) → Sq W (At i) (runs C Λ En body.turn-1 (anyQ (Turned i)))
@@ -213,8 +212,7 @@ module _ {M : Type 1} (𝓤 : URA M) (H : Heap 𝓤) (A : Atoms 𝓤) (W : Given
       ∷ ‵ (owns (MutSlice (named 0) κ R ∷ ShrSlice (named 1) κ′ u8 ∷ usize ∷ usize ∷ [])
       (args b o γ ys s n count) (vals b o γ ys s n count)) ∷ []) ∵
       enter ! (𝓣 .C) (𝓣 .Λ) code.function (tv ∷ fileVal s ∷ vint w64 n ∷ vint w64 count ∷ []) _ $
-      alloc1 ! (λ l₀. alloc1 ! (λ l₁. alloc1 ! (λ l₂. alloc1 ! (λ l₃. alloc1 ! (λ l₄. alloc1 ! (λ l₅. alloc1 ! (λ l₆.
-      alloc1 ! (λ l₇. alloc1 ! (λ l₈. alloc1 ! (λ l₉. alloc0 ! $ params1 ! $
+      allocated ! (λ l. params1 ! $
       pass1 ! (init ! (loc 0 1) refl (tt, (tt, (record { fits = room .0 }, tt)))) $
       pass1 ! (init ! (loc 0 2) refl (tt, (tt, (record { fits = file-room .0 }, tt)))) $
       pass1 ! (init ! (loc 0 3) refl (tt, record { fits = n-fits })) $
@@ -227,5 +225,5 @@ module _ {M : Type 1} (𝓤 : URA M) (H : Heap 𝓤) (A : Atoms 𝓤) (W : Given
       rewrite ! 0 (λ (zs : List Peak). ‵ (row R fullShare zs b o)) (sym (filled-start ys (s .now) n)) refl $
       move ! (4 ∷ []) $ split ! $ move ! (1 ∷ []) $ drop ! $ move ! (5 ∷ []) $ fsplit ! $ move ! (1 ∷ []) $ drop ! $
       move ! (2 ∷ 3 ∷ 4 ∷ 5 ∷ 1 ∷ 0 ∷ []) $
-      first ! $ blocks ! $ loops ! 𝓣 (Nearer count) (Nearer-wf count) (At 𝓣 known l₀ l₁ l₂ l₃ l₄ l₅ l₆ l₇ l₈ l₉)
-      (turns 𝓣 known l₀ l₁ l₂ l₃ l₄ l₅ l₆ l₇ l₈ l₉) (0, zero-le)))))))))))
+      first ! $ blocks ! $ loops ! 𝓣 (Nearer count) (Nearer-wf count) (At 𝓣 known l)
+      (turns 𝓣 known l) (0, zero-le))

@@ -20,13 +20,11 @@ use mir.Val.{Val, vint}
 use base.Logic.{SProp, ent, ex, id⊢}
 use base.Fml.{Lft, GName, Share, Fml, flft}
 use prog.Memory.{Memory}
-use prog.Model.{Model}
-use prog.Routine.{Routine, Env as Routines}
+use prog.Routine.{Routine}
 use prog.Wp.{Heap, Env, Calls, Loops}
 use ghost.Atoms.{Atoms}
 use contract.Lifetimes.{Lfts}
 use contract.Monad.{Fun, fact}
-use contract.Running.{Running, GhostRules, tables}
 use types.Kit.{Given, Item, ‵, raw, _⊛_, some, later, ⋆, Post, Seq, runs, lands, _$_, _∵_, !, qed, move, keep, drop}
 use types.Kit.{use2, use3, split, join, pick, fsplit, fjoin, feqL, frame, await, show, done}
 use types.Run.{Opds}
@@ -38,11 +36,11 @@ use denote.Builtin.{u8, u32, usize, i32}
 use denote.Ref.{RefT}
 use denote.Slice.{sliceVal, MutSlice, Room}
 use denote.Steps.{owned, heard, nothing}
-use denote.Triple.Statement.{Contract, Triple}
+use denote.Triple.Statement.{Triple}
 use denote.Triple.Clauses.{Lasts, ensured, lasts}
 use denote.Triple.Spec.{tripleOf}
-use denote.Triple.Table.{cited}
 use denote.Triple.Walked.{says}
+use Rattle.table.proofs.Walks.{Known, Promise, knows}
 use Rattle.table.proofs.LentAgain.{LentMut, lends-again, comes-back}
 use Rattle.layout.specs.declared.Written.{Written}
 use Rattle.layout.specs.Inner.{Few, GridPut}
@@ -53,16 +51,11 @@ use Rattle.layout.proofs.writer.put_grid.Symbol.{name as #layout·put-grid}
 use Rattle.layout.proofs.writer.put_grid.Met as grid-thm
 use Rattle.runfile.proofs.Slices.{valueOf, sliceAt, OwnShr, copies, Leaves, calls-leaves}
 
-abbrev pub PutGrid : {M : Type 1} (𝓤 : URA M) (H : Heap 𝓤) (A : Atoms 𝓤) (mem : Memory → SProp 𝓤)
-    (run : Routine → Fun 𝓤) → Contract 𝓤
+abbrev pub PutGrid : {M : Type 1} → Promise M
 PutGrid 𝓤 H A mem run = tripleOf 𝓤 H A grid.signature (grid.spec 𝓤 H A mem run)
 
-pub grid-known : {M : Type 1} (𝓤 : URA M) (H : Heap 𝓤) (𝓜 : Model 𝓤 H) (𝓖 : GhostRules 𝓤 H) (𝓡 : Running 𝓤 H 𝓜)
-    (env : Routines) → env #layout·put-grid ≡ grid-def.routine
-    → Triple 𝓤 (tables 𝓤 H 𝓜 𝓡 env .C #layout·put-grid) (PutGrid 𝓤 H (𝓖 .A) (𝓜 .mem) (𝓡 .run))
-grid-known 𝓤 H 𝓜 𝓖 𝓡 env e =
-    cited 𝓤 H (PutGrid 𝓤 H (𝓖 .A) (𝓜 .mem) (𝓡 .run)) 𝓜 𝓡 env #layout·put-grid grid-def.routine e
-    (grid-thm.met 𝓤 H 𝓜 𝓖 𝓡)
+pub grid-known : {M : Type 1} → Known M PutGrid #layout·put-grid grid-def.routine
+grid-known = knows PutGrid #layout·put-grid grid-def.routine grid-thm.met
 
 abbrev pub GridLeft : ℕ → List ℤ → ℕ → ℕ → List ℕ → Written → List ℕ → Type 0
 GridLeft rows heights n unsound ys w zs = (length zs ≡ length ys) × GridPut rows heights n unsound ys zs w

@@ -18,12 +18,10 @@ use mir.Val.{Val, vint}
 use base.Logic.{SProp, ent, emp, snd∗, exE, id⊢}
 use base.Fml.{Lft, Share, Fml, flft}
 use prog.Memory.{Memory}
-use prog.Model.{Model}
-use prog.Routine.{Routine, Env as Routines}
+use prog.Routine.{Routine}
 use prog.Wp.{Heap, Env, Calls, Loops}
 use ghost.Atoms.{Atoms, sem}
 use contract.Monad.{Fun, fact}
-use contract.Running.{Running, GhostRules, tables}
 use types.Kit.{Given, Item, ‵, raw, ⋆, Post, Seq, runs, lands, _$_, _∵_, !, qed, move, use1, join, fjoin, frame, done}
 use types.Run.{Opds}
 use sound.WpLaws.{FmC}
@@ -33,12 +31,12 @@ use denote.Builtin.{usize, i32}
 use denote.Ref.{RefT}
 use denote.Steps.{owned, heard, nothing}
 use denote.Enum.Laws as EL
-use denote.Triple.Statement.{Contract, Triple}
+use denote.Triple.Statement.{Triple}
 use denote.Triple.Clauses.{ensured, lasts}
 use denote.Triple.Spec.{tripleOf}
-use denote.Triple.Table.{cited}
 use Rattle.record.specs.declared.Peak.{Peak}
 use Rattle.record.proofs.Peak as T
+use Rattle.table.proofs.Walks.{Known, Promise, knows}
 use Rattle.table.proofs.Locals.{lands-number, calls-number}
 use Rattle.layout.specs.declared.Written.{Written}
 use Rattle.sound.specs.Sound.{FirstUnsound}
@@ -55,26 +53,17 @@ use Rattle.runfile.proofs.first_unsound.Symbol as unsound-def
 use Rattle.runfile.proofs.first_unsound.Symbol.{name as #runfile·first-unsound}
 use Rattle.runfile.proofs.first_unsound.Met as unsound-thm
 
-module _ {M : Type 1} (𝓤 : URA M) (H : Heap 𝓤) (A : Atoms 𝓤) (mem : Memory → SProp 𝓤) (run : Routine → Fun 𝓤) where
-  abbrev pub First : Contract 𝓤
-  First = tripleOf 𝓤 H A unsound.signature (unsound.spec 𝓤 H A mem run)
+abbrev pub First : {M : Type 1} → Promise M
+First 𝓤 H A mem run = tripleOf 𝓤 H A unsound.signature (unsound.spec 𝓤 H A mem run)
 
-  abbrev pub RecordsToPut : Contract 𝓤
-  RecordsToPut = tripleOf 𝓤 H A count-of.signature (count-of.spec 𝓤 H A mem run)
+pub first-known : {M : Type 1} → Known M First #runfile·first-unsound unsound-def.routine
+first-known = knows First #runfile·first-unsound unsound-def.routine unsound-thm.met
 
-module _ {M : Type 1} (𝓤 : URA M) (H : Heap 𝓤) (𝓜 : Model 𝓤 H) (𝓖 : GhostRules 𝓤 H) (𝓡 : Running 𝓤 H 𝓜)
-    (env : Routines) where
-  pub first-known : env #runfile·first-unsound ≡ unsound-def.routine
-      → Triple 𝓤 (tables 𝓤 H 𝓜 𝓡 env .C #runfile·first-unsound) (First 𝓤 H (𝓖 .A) (𝓜 .mem) (𝓡 .run))
-  first-known e =
-      cited 𝓤 H (First 𝓤 H (𝓖 .A) (𝓜 .mem) (𝓡 .run)) 𝓜 𝓡 env #runfile·first-unsound unsound-def.routine e
-      (unsound-thm.met 𝓤 H 𝓜 𝓖 𝓡)
+abbrev pub RecordsToPut : {M : Type 1} → Promise M
+RecordsToPut 𝓤 H A mem run = tripleOf 𝓤 H A count-of.signature (count-of.spec 𝓤 H A mem run)
 
-  pub count-known : env #layout·records-to-put ≡ count-of-def.routine
-      → Triple 𝓤 (tables 𝓤 H 𝓜 𝓡 env .C #layout·records-to-put) (RecordsToPut 𝓤 H (𝓖 .A) (𝓜 .mem) (𝓡 .run))
-  count-known e =
-      cited 𝓤 H (RecordsToPut 𝓤 H (𝓖 .A) (𝓜 .mem) (𝓡 .run)) 𝓜 𝓡 env #layout·records-to-put count-of-def.routine e
-      (count-of-thm.met 𝓤 H 𝓜 𝓖 𝓡)
+pub count-known : {M : Type 1} → Known M RecordsToPut #layout·records-to-put count-of-def.routine
+count-known = knows RecordsToPut #layout·records-to-put count-of-def.routine count-of-thm.met
 
 -- ---- `first_unsound`
 

@@ -20,13 +20,11 @@ use mir.Val.{Val, vint, hasTy, WT}
 use base.Logic.{SProp, ent, ex, id⊢}
 use base.Fml.{Lft, GName, Share, Fml, flft}
 use prog.Memory.{Memory}
-use prog.Model.{Model}
-use prog.Routine.{Routine, Env as Routines}
+use prog.Routine.{Routine}
 use prog.Wp.{Heap, Env, Calls, Loops}
 use ghost.Atoms.{Atoms}
 use contract.Lifetimes.{Lfts}
 use contract.Monad.{Fun, fact}
-use contract.Running.{Running, GhostRules, tables}
 use types.Kit.{Given, Item, ‵, raw, _⊛_, some, ⋆, Post, Seq, runs, lands, _$_, _∵_, !, qed, move, keep, split}
 use types.Kit.{join, pick, fsplit, fjoin, feqL, frame, show, done}
 use types.Run.{Opds}
@@ -37,13 +35,13 @@ use denote.Builtin.{u8, usize, unit}
 use denote.Ref.{RefT}
 use denote.Slice.{sliceVal, MutSlice, finally}
 use denote.Steps.{owned, heard, nothing}
-use denote.Triple.Statement.{Contract, Triple}
+use denote.Triple.Statement.{Triple}
 use denote.Triple.Clauses.{Lasts, ensured, lasts}
 use denote.Triple.Spec.{tripleOf}
-use denote.Triple.Table.{cited}
 use denote.Triple.Walked.{says}
 use Rattle.record.specs.declared.Peak.{Peak}
 use Rattle.record.proofs.Peak as T
+use Rattle.table.proofs.Walks.{Known, Promise, knows}
 use Rattle.layout.specs.Inner.{Puttable, laid}
 use Rattle.runfile.proofs.Slices.{valueOf, sliceAt, OwnShr, copies, Leaves, calls-leaves}
 use Rattle.runfile.proofs.put_records as put
@@ -51,16 +49,11 @@ use Rattle.runfile.proofs.put_records.Symbol as put-def
 use Rattle.runfile.proofs.put_records.Symbol.{name as #runfile·put-records}
 use Rattle.runfile.proofs.put_records.Met as put-thm
 
-abbrev pub PutRecords : {M : Type 1} (𝓤 : URA M) (H : Heap 𝓤) (A : Atoms 𝓤) (mem : Memory → SProp 𝓤)
-    (run : Routine → Fun 𝓤) → Contract 𝓤
+abbrev pub PutRecords : {M : Type 1} → Promise M
 PutRecords 𝓤 H A mem run = tripleOf 𝓤 H A put.signature (put.spec 𝓤 H A mem run)
 
-pub put-known : {M : Type 1} (𝓤 : URA M) (H : Heap 𝓤) (𝓜 : Model 𝓤 H) (𝓖 : GhostRules 𝓤 H) (𝓡 : Running 𝓤 H 𝓜)
-    (env : Routines) → env #runfile·put-records ≡ put-def.routine
-    → Triple 𝓤 (tables 𝓤 H 𝓜 𝓡 env .C #runfile·put-records) (PutRecords 𝓤 H (𝓖 .A) (𝓜 .mem) (𝓡 .run))
-put-known 𝓤 H 𝓜 𝓖 𝓡 env e =
-    cited 𝓤 H (PutRecords 𝓤 H (𝓖 .A) (𝓜 .mem) (𝓡 .run)) 𝓜 𝓡 env #runfile·put-records put-def.routine e
-    (put-thm.met 𝓤 H 𝓜 𝓖 𝓡)
+pub put-known : {M : Type 1} → Known M PutRecords #runfile·put-records put-def.routine
+put-known = knows PutRecords #runfile·put-records put-def.routine put-thm.met
 
 abbrev pub PutLeft : List ℕ → ℕ → List Peak → ℕ → List ℕ → Type 0
 PutLeft room cells records count ts = (length ts ≡ length room) × (ts ≡ laid room cells records count)

@@ -28,7 +28,7 @@ use denote.Builtin.{u8, usize}
 use denote.Ref.{RefT}
 use denote.Slice.{sliceVal, ShrSlice, shr-slice-copy}
 use denote.Steps.{owned, peeks, heard, nothing}
-use denote.Triple.Statement.{Contract, Triple}
+use denote.Triple.Statement.{Triple}
 use denote.Triple.Call.{calls-at}
 use denote.Triple.Clauses.{ensured, lasts}
 use denote.Triple.Spec.{tripleOf}
@@ -37,11 +37,11 @@ use Rattle.record.specs.declared.Peak.{Peak}
 use Rattle.record.proofs.Peak as T
 use Rattle.area.specs.Area.{orderIn}
 use Rattle.table.specs.Inner.{Pointed, peakIn}
+use Rattle.table.proofs.Walks.{Promise}
 use Rattle.table.proofs.record_at as record-at
 use Rattle.table.proofs.record_at.Symbol.{name as #table·record-at}
 
-abbrev pub RecordAt : {M : Type 1} (𝓤 : URA M) (H : Heap 𝓤) (A : Atoms 𝓤) (mem : Memory → SProp 𝓤)
-    (run : Routine → Fun 𝓤) → Contract 𝓤
+abbrev pub RecordAt : {M : Type 1} → Promise M
 RecordAt 𝓤 H A mem run = tripleOf 𝓤 H A record-at.signature (record-at.spec 𝓤 H A mem run)
 
 abbrev pub found : List ℕ → ℕ → ℕ → Peak

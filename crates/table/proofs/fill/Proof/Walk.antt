@@ -1,6 +1,6 @@
 -- The walk of the MIR of `table::fill`, by hand, after `Denote/Examples/Count.antt` of the kit's logic (the loop) and
 -- `proofs/store` of its example `writer` (the store).
---     stayed              what the function still has of its parameters at the end
+--     parameters          the row, which is kept, the work area, and two numbers
 --     At i                the loop's invariant, where i records are filled in
 --     more, ends, turns   a turn that fills one record, the turn that leaves the loop, and any turn
 --     walk                the MIR from the entry
@@ -30,36 +30,36 @@ use prog.Routine.{Routine}
 use prog.Wp.{Heap, Out, Env, afterSeq, afterBlock, afterTurn, Calls, Loops, Wp, atReturn, WpFn, Tables}
 use ghost.Atoms.{Atoms}
 use contract.Monad.{Fun}
-use types.Kit.{Given, Item, ‵, _⊛_, ⋆, Sq, runs, anyQ, atRet, _$_, _∵_, !, qed, by, move, drop, split, join, rewrite}
-use types.Kit.{fsplit, fjoin, feqI, suffices, frame, done}
+use types.Kit.{Given, Item, ‵, _⊛_, ⋆, Sq, runs, anyQ, atRet, _$_, _∵_, !, qed, by, move, keep, drop, split}
+use types.Kit.{join, rewrite, fsplit, fjoin, feqI, suffices, frame, done}
 use types.Run.{look, store, store-raw, init, forget, stop, hop, fld, from, load, lit, unit-lit, of-opd, bin, and-then}
-use types.Run.{no-more, assigns, assigns-last, first, blocks, stays, leaves-loop, land, returns, enter, alloc1, alloc0}
-use types.Run.{params1, pass1, pass0, free1, free0, exec, Below, again, loops}
+use types.Run.{no-more, assigns, assigns-last, first, blocks, stays as stays-in, leaves-loop, land, returns, enter}
+use types.Run.{params1}
+use types.Run.{pass1, pass0, free0, exec, Below, again, loops}
 use types.Part.{whole, sub, look-in}
 use sound.WpLaws.{fmOf}
 use denote.RattleType.{RattleType, owns}
 use denote.Shadow.{pureI}
 use denote.Laws.{Is, shows}
 use denote.Memory.{pointee}
-use denote.Plain.{uint-makes}
 use denote.Builtin.{u8, usize}
 use denote.Ref.{RefT}
-use denote.Signature.{plain}
 use denote.Slice.{sliceTy, sliceVal, MutSlice, ShrSlice, heres, Room, codedHoleys, at-slice}
 use denote.Lend.{Held}
 use denote.Index.{row, place-is, elem-out, elem-put, opens-slice, closes-slice}
-use denote.Steps.{owned, nothing}
+use denote.Steps.{nothing}
 use denote.Struct.Laws as LL
 use denote.Triple.Statement.{Triple}
 use denote.Triple.Entry.{onEntry}
-use denote.Triple.Walked.{says, Stays, stay-none, stay-slice, stay-none-slice, walkOf, ends-at}
-use denote.Exit.{yes as kept}
+use denote.Triple.Walked.{says, Stays, walkOf, ends-at}
 use Rattle.record.specs.declared.Peak.{Peak}
 use Rattle.record.proofs.Peak as T
 use Rattle.record.proofs.Peak.Laws as T′
 use Rattle.table.specs.Inner.{Fillable}
 use Rattle.table.proofs.Laws.{standing-pointed, filled, filled-start, filled-step, filled-length}
-use Rattle.table.proofs.Locals.{localAt, copied, release}
+use Rattle.table.proofs.Parameters.{Parameter, number, shared, mutable-kept, stays, none}
+use Rattle.table.proofs.Locals.{localAt, copied}
+use Rattle.table.proofs.Frame.{allocated, releases}
 use Rattle.table.proofs.Upto.{Upto, Nearer, Nearer-wf, bytes-fit, next-fits}
 use Rattle.table.proofs.record_at.Symbol.{name as #table·record-at}
 use Rattle.table.proofs.fill as fill
@@ -70,14 +70,11 @@ use Rattle.table.proofs.fill.Code.Mir as body
 abbrev pub R : RattleType
 R = T.the-row
 
-abbrev pub stayed : Stays (fill.ended .signature .params) (fill.ended .kept)
-stayed = (
-  stay-slice (0 ∷ []) tt (plain (λ _. R)),
-  (
-    stay-none-slice (1 ∷ []) tt (plain (λ _. u8)) kept,
-    (stay-none (λ _. usize) kept, (stay-none (λ _. usize) kept, tt)),
-  ),
-)
+abbrev pub parameters : List (Parameter 2)
+parameters = mutable-kept 0 tt R ∷ shared 1 tt u8 ∷ number w64 ∷ number w64 ∷ []
+
+abbrev stayed : Stays (fill.ended .signature .params) (fill.ended .kept)
+stayed = stays parameters
 
 abbrev loc : ℕ → ℕ → ℕ
 loc = localAt 9
@@ -128,19 +125,17 @@ module _ {M : Type 1} (𝓤 : URA M) (H : Heap 𝓤) (A : Atoms 𝓤) (W : Given
 
   exits : (zs : List Peak) → length zs ≡ length ys → zs ≡ at count
       → ent 𝓤 (⋆ 𝓤 H A (‵ (fobs γ (codedHoleys R .code (heres R zs))) ∷ ‵ (fbor κ (Held R (length zs) b o γ))
-      ∷ ‵ (flft κ q) ∷ ‵ (flft κ′ q′) ∷ ‵ Own ∷ [])) (Post vunit)
+      ∷ ‵ (flft κ q) ∷ ‵ (flft κ′ q′) ∷ [])) (Post vunit)
   exits zs l e =
       qed W (‵ (fobs γ (codedHoleys R .code (heres R zs))) ∷ ‵ (fbor κ (Held R (length zs) b o γ)) ∷ ‵ (flft κ q)
-      ∷ ‵ (flft κ′ q′) ∷ ‵ Own ∷ []) ∵
+      ∷ ‵ (flft κ′ q′) ∷ []) ∵
       suffices ! _ (ends-at 𝓤 H A fill.ended stayed (fill.clauses 𝓤 H A mem run) W
       (((κ, (κ′, tt)), (q, (q′, tt)), tt, a, vals), tt) vunit tt (zs, (tt, (tt, (tt, tt)))) (l, (tt, (tt, (tt, tt))))) $
       says ! e $ nothing ! $ move ! (4 ∷ 0 ∷ []) $ join ! $ move ! (3 ∷ 0 ∷ []) $ join ! $ frame ! $
-      -- [obs; the borrow; what work owns]
+      -- [obs; the borrow]
       fjoin ! $ pureI ! (at-slice R (x zs) (tv ∷ [])) (tt, (tt, tt))
       (ap (λ (m : ℕ). sliceVal (b, o) m ∷ []) (sym l), subst (Room R) (sym l) room) $ fjoin ! $
-      nothing ! $ owned ! usize (Is usize) (uint-makes 𝓤 H A W w64) count _ (refl, count-fits) $ fjoin ! $
-      owned ! usize (Is usize) (uint-makes 𝓤 H A W w64) n _ (refl, n-fits) $ fjoin ! $
-      move ! (2 ∷ 0 ∷ []) $ fjoin ! $ move ! (1 ∷ 0 ∷ []) $ fjoin ! $
+      nothing ! $ none ! $ none ! $ none ! $ move ! (1 ∷ 0 ∷ []) $ fjoin ! $
       feqI ! (List Val) (vunit ∷ []) (vunit ∷ []) refl $ move ! (1 ∷ 0 ∷ []) $ done !
 
   -- the record that a turn stores
@@ -157,7 +152,7 @@ module _ {M : Type 1} (𝓤 : URA M) (H : Heap 𝓤) (A : Atoms 𝓤) (W : Given
   within-at i less = subst (λ (m : ℕ). i .0 < m) (sym (at-length i)) (within (i .0) less)
 
   module _ (𝓣 : Tables 𝓤 H) (known : Triple 𝓤 (𝓣 .C #table·record-at) (RecordAt 𝓤 H A mem run))
-      (l₀ l₁ l₂ l₃ l₄ l₅ l₆ l₇ l₈ l₉ : ℕ) where
+      (l : ℕ → ℕ) where
     abbrev C : Calls 𝓤 H
     C = 𝓣 .C
 
@@ -166,8 +161,8 @@ module _ {M : Type 1} (𝓤 : URA M) (H : Heap 𝓤) (A : Atoms 𝓤) (W : Given
 
     abbrev En : Env 𝓤 H
     En =
-        (tyUnit, l₀) ∷ (table-type, l₁) ∷ (work-type, l₂) ∷ (word, l₃) ∷ (word, l₄) ∷ (word, l₅) ∷ (tyBool, l₆)
-        ∷ (T′.mir, l₇) ∷ (word, l₈) ∷ (tyPtr, l₉) ∷ []
+        (tyUnit, l 0) ∷ (table-type, l 1) ∷ (work-type, l 2) ∷ (word, l 3) ∷ (word, l 4) ∷ (word, l 5) ∷ (tyBool, l 6)
+        ∷ (T′.mir, l 7) ∷ (word, l 8) ∷ (tyPtr, l 9) ∷ []
 
     -- the invariant: the row with i records, its open borrow, the work area, and the locals, the last first
     abbrev At : Upto count → List (Item 𝓤)
@@ -175,14 +170,14 @@ module _ {M : Type 1} (𝓤 : URA M) (H : Heap 𝓤) (A : Atoms 𝓤) (W : Given
         ‵ (row R fullShare (at (i .0)) b o) ∷ ‵ (fobor κ q (Held R (length ys) b o γ))
         ∷ ‵ (fobs γ (codedHoleys R .code (heres R ys))) ∷ ‵ (fauth γ (codedHoleys R .code (heres R ys)))
         ∷ ‵ (flft κ′ q′) ∷ ‵ Own
-        ∷ ‵ (froom tyPtr l₉ 0) ∷ ‵ (fdies tyPtr l₉) ∷ ‵ (froom word l₈ 0) ∷ ‵ (fdies word l₈)
-        ∷ ‵ (froom T′.mir l₇ 0) ∷ ‵ (fdies T′.mir l₇) ∷ ‵ (froom tyBool l₆ 0) ∷ ‵ (fdies tyBool l₆)
-        ∷ ‵ (fat fullShare word l₅ 0 (vint w64 (i .0))) ∷ ‵ (fdies word l₅)
-        ∷ ‵ (fat fullShare word l₄ 0 (vint w64 count)) ∷ ‵ (fdies word l₄)
-        ∷ ‵ (fat fullShare word l₃ 0 (vint w64 n)) ∷ ‵ (fdies word l₃)
-        ∷ ‵ (fat fullShare work-type l₂ 0 sv) ∷ ‵ (fdies work-type l₂)
-        ∷ ‵ (fat fullShare table-type l₁ 0 tv) ∷ ‵ (fdies table-type l₁)
-        ∷ ‵ (froom tyUnit l₀ 0) ∷ ‵ (fdies tyUnit l₀) ∷ []
+        ∷ ‵ (froom tyPtr (l 9) 0) ∷ ‵ (fdies tyPtr (l 9)) ∷ ‵ (froom word (l 8) 0) ∷ ‵ (fdies word (l 8))
+        ∷ ‵ (froom T′.mir (l 7) 0) ∷ ‵ (fdies T′.mir (l 7)) ∷ ‵ (froom tyBool (l 6) 0) ∷ ‵ (fdies tyBool (l 6))
+        ∷ ‵ (fat fullShare word (l 5) 0 (vint w64 (i .0))) ∷ ‵ (fdies word (l 5))
+        ∷ ‵ (fat fullShare word (l 4) 0 (vint w64 count)) ∷ ‵ (fdies word (l 4))
+        ∷ ‵ (fat fullShare word (l 3) 0 (vint w64 n)) ∷ ‵ (fdies word (l 3))
+        ∷ ‵ (fat fullShare work-type (l 2) 0 sv) ∷ ‵ (fdies work-type (l 2))
+        ∷ ‵ (fat fullShare table-type (l 1) 0 tv) ∷ ‵ (fdies table-type (l 1))
+        ∷ ‵ (froom tyUnit (l 0) 0) ∷ ‵ (fdies tyUnit (l 0)) ∷ []
 
     -- a turn's postcondition: it ends nearer to the count, or the loop is left and the rest of the body runs
     abbrev Turned : Upto count → Out → SProp 𝓤
@@ -196,8 +191,8 @@ module _ {M : Type 1} (𝓤 : URA M) (H : Heap 𝓤) (A : Atoms 𝓤) (W : Given
     more i less =
         assigns ! (bin ! (copied ! (loc 6 5) refl) (copied ! (loc 6 4) refl) tt) (from ! (stop !))
         (init ! (loc 6 6) refl (tt, tt)) $
-        rewrite ! (loc 6 6) (λ (t : Bool). ‵ (fat fullShare tyBool l₆ 0 (vbool t))) (lt-ltb (i .0) count less) refl $
-        stays ! (copied ! (loc 6 6) refl) $
+        rewrite ! (loc 6 6) (λ (t : Bool). ‵ (fat fullShare tyBool (l 6) 0 (vbool t))) (lt-ltb (i .0) count less) refl $
+        stays-in ! (copied ! (loc 6 6) refl) $
         move ! (4 ∷ 5 ∷ []) $
         calls-record 𝓤 H A W mem run κ′ q′ s n (i .0) ! (fmOf 𝓤 H (W .laws) 𝓣) known
         (standing-pointed (can .standing) (i .0) less) n-fits i-fits (and-then ! (copied ! (loc 6 2) refl)
@@ -208,7 +203,7 @@ module _ {M : Type 1} (𝓤 : URA M) (H : Heap 𝓤) (A : Atoms 𝓤) (W : Given
         (from ! (stop !)) (init ! (loc 7 8) refl (tt, record { fits = bytes })) $
         assigns ! (bin ! (load ! (from ! (fld ! refl (stop !))) (look-in ! (loc 7 1) (sub ! 0 refl (whole !))))
         (copied ! (loc 7 8) refl) tt) (from ! (stop !)) (init ! (loc 7 9) refl (tt, tt)) $
-        rewrite ! (loc 7 9) (λ (p : ℕ). ‵ (fat fullShare tyPtr l₉ 0 (vptr b p))) (sym (place-is 16 o (i .0))) refl $
+        rewrite ! (loc 7 9) (λ (p : ℕ). ‵ (fat fullShare tyPtr (l 9) 0 (vptr b p))) (sym (place-is 16 o (i .0))) refl $
         -- the i-th record is taken out of the row, stored to, and put back
         move ! (3 ∷ []) $
         elem-out ! R (Is R) (shows 𝓤 H A R) (LL.vals T.the-type T′.the-laws) (LL.tells T.the-type T′.the-laws) fullShare
@@ -245,16 +240,13 @@ module _ {M : Type 1} (𝓤 : URA M) (H : Heap 𝓤) (A : Atoms 𝓤) (W : Given
     ends i over =
         assigns ! (bin ! (copied ! (loc 6 5) refl) (copied ! (loc 6 4) refl) tt) (from ! (stop !))
         (init ! (loc 6 6) refl (tt, tt)) $
-        rewrite ! (loc 6 6) (λ (t : Bool). ‵ (fat fullShare tyBool l₆ 0 (vbool t))) (le-ltb (i .0) count over) refl $
+        rewrite ! (loc 6 6) (λ (t : Bool). ‵ (fat fullShare tyBool (l 6) 0 (vbool t))) (le-ltb (i .0) count over) refl $
         leaves-loop ! (copied ! (loc 6 6) refl) $ exec ! C Λ En body.t-3 (atRet En Post) $
         assigns ! (of-opd ! (unit-lit !)) (from ! (stop !)) (init ! (loc 6 0) refl (tt, tt)) $
         closes-slice ! tt R ys (at (i .0)) (at-length i) b o $
         -- [obs; the borrow; the token; the work area's token; what it owns; _9; …; _0; …]
         returns ! (look ! (loc 5 0) refl) $
-        release ! (loc 5 0) refl refl $ release ! (loc 5 1) refl refl $ release ! (loc 5 2) refl refl $
-        release ! (loc 5 3) refl refl $ release ! (loc 5 4) refl refl $ release ! (loc 5 5) refl refl $
-        release ! (loc 5 6) refl refl $ move ! (9 ∷ 10 ∷ []) $ free1 ! $ move ! (7 ∷ 8 ∷ []) $ free1 ! $
-        move ! (5 ∷ 6 ∷ []) $ free1 ! $ free0 ! $
+        releases ! (loc 5 0) 10 refl $ free0 ! $ keep ! (0 ∷ 1 ∷ 2 ∷ 3 ∷ []) $
         by ! (exits (at (i .0)) (at-length i) (ap at (le-antisymm (i .1) over)))
 
     turns : (i : Upto count) → Sq W (At i) (runs C Λ En body.turn-1 (anyQ (Turned i)))
@@ -271,8 +263,7 @@ module _ {M : Type 1} (𝓤 : URA M) (H : Heap 𝓤) (A : Atoms 𝓤) (W : Given
       qed W ((‵ (flft κ q) ⊛ ‵ (flft κ′ q′) ⊛ ‵ ftrue)
       ∷ ‵ (owns (MutSlice (named 0) κ R ∷ ShrSlice (named 1) κ′ u8 ∷ usize ∷ usize ∷ []) a vals) ∷ []) ∵
       enter ! (𝓣 .C) (𝓣 .Λ) code.function (tv ∷ sv ∷ vint w64 n ∷ vint w64 count ∷ []) _ $
-      alloc1 ! (λ l₀. alloc1 ! (λ l₁. alloc1 ! (λ l₂. alloc1 ! (λ l₃. alloc1 ! (λ l₄. alloc1 ! (λ l₅. alloc1 ! (λ l₆.
-      alloc1 ! (λ l₇. alloc1 ! (λ l₈. alloc1 ! (λ l₉. alloc0 ! $ params1 ! $
+      allocated ! (λ l. params1 ! $
       pass1 ! (init ! (loc 0 1) refl (tt, (tt, (record { fits = room .0 }, tt)))) $
       pass1 ! (init ! (loc 0 2) refl (tt, (tt, (record { fits = work-room .0 }, tt)))) $
       pass1 ! (init ! (loc 0 3) refl (tt, record { fits = n-fits })) $
@@ -285,5 +276,5 @@ module _ {M : Type 1} (𝓤 : URA M) (H : Heap 𝓤) (A : Atoms 𝓤) (W : Given
       rewrite ! 0 (λ (zs : List Peak). ‵ (row R fullShare zs b o)) (sym (filled-start ys (s .now) n)) refl $
       move ! (4 ∷ []) $ split ! $ move ! (1 ∷ []) $ drop ! $ move ! (5 ∷ []) $ fsplit ! $ move ! (1 ∷ []) $ drop ! $
       move ! (2 ∷ 3 ∷ 4 ∷ 5 ∷ 1 ∷ 0 ∷ []) $
-      first ! $ blocks ! $ loops ! 𝓣 (Nearer count) (Nearer-wf count) (At 𝓣 known l₀ l₁ l₂ l₃ l₄ l₅ l₆ l₇ l₈ l₉)
-      (turns 𝓣 known l₀ l₁ l₂ l₃ l₄ l₅ l₆ l₇ l₈ l₉) (0, zero-le)))))))))))
+      first ! $ blocks ! $ loops ! 𝓣 (Nearer count) (Nearer-wf count) (At 𝓣 known l)
+      (turns 𝓣 known l) (0, zero-le))

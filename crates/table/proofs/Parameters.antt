@@ -1,11 +1,12 @@
--- The parameters of a walked function that gives all that it is passed up for good: to one call, or to nobody.
+-- The parameters of a walked function, each with what the walk still has of it at the end.
 --     Parameter n          its slot in a signature of n lifetimes, what is had of it at the end, how its machine values
 --                          are spelled, and the laws of these
---     plainly, number, shared, mutable     plain data; an unsigned number; a `&` slice; a `&mut` slice, of which its
---                          last list is known at the end
+--     plainly, number, shared     plain data; an unsigned number; a `&` slice. Nothing is had of these at the end
+--     mutable              a `&mut` slice that is given up for good: its last list is known at the end
+--     mutable-kept         a `&mut` slice that is still owned at the end, at its last list
 --     slots, stays, spells, tells, goes    these of a list of parameters
 --     Spent, spends        what is left of a `&mut` slice that is given up: its last list, as long as it was
---     none                 of another parameter nothing is left
+--     none                 of a parameter nothing is left
 -- Assumes `Given`.
 use mathlib.Core.Path.{_≡_, refl}
 use mathlib.Core.List.{List, [], _∷_}
@@ -29,7 +30,7 @@ use denote.Signature.{Slot, AllWithin, typesAt, plain, shrSliceOf, mutSliceOf}
 use denote.Slice.{finally, slice-vals}
 use denote.Steps.{nothing}
 use denote.Triple.End.{all}
-use denote.Triple.Walked.{Stay, Stays, stay-dropped, gave-slice, Goes, AllGo, goes-dropped}
+use denote.Triple.Walked.{Stay, Stays, stay-dropped, stay-slice, gave-slice, Goes, AllGo, goes-dropped, goes-slice}
 use denote.Triple.Walked.{goes-gave-slice}
 
 pub record Parameter (n : ℕ) : Type 2 where
@@ -69,6 +70,15 @@ module _ {n : ℕ} where
     spell = λ κs. slice-vals;
     tell = λ κs x vs p. p .0 .0;
     go = λ 𝓤 H A W. goes-gave-slice 𝓤 H A W n j ok (plain (λ _. L));
+  }
+
+  abbrev pub mutable-kept : (j : ℕ) → AllWithin n (j ∷ []) → RattleType → Parameter n
+  mutable-kept j ok L = record {
+    slot = mutSliceOf (j ∷ []) ok (plain (λ _. L));
+    stay = stay-slice (j ∷ []) ok (plain (λ _. L));
+    spell = λ κs. slice-vals;
+    tell = λ κs x vs p. p .0 .0;
+    go = λ 𝓤 H A W. goes-slice 𝓤 H A W n j ok (plain (λ _. L));
   }
 
   abbrev pub slots : List (Parameter n) → List (Slot n)
