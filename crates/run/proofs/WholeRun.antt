@@ -145,7 +145,8 @@ run-holds run run′ cells grid batches n work work′ table table′ c e h =
         → Rest (touchOf (shapeOf run)) (stageOf (shapeOf run) (length batches) cells) (run .threshold)
         (h .hands .entries)
     ended t =
-        subst (λ (s : Stage). Rest (touchOf (shapeOf run)) s (run .threshold) (h .hands .entries)) same (h .hands .right)
+        subst (λ (s : Stage). Rest (touchOf (shapeOf run)) s (run .threshold) (h .hands .entries)) same
+        (h .hands .right)
       where
         same : stageOf (shapeOf run) (run .columns) grid ≡ stageOf (shapeOf run) (length batches) cells
         same =
