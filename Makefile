@@ -6,16 +6,20 @@
 
 test:
 	@echo "test: layout, pages, tools, C++ tests, the program's files, then all proofs; some 20 minutes" >&2
-	@$(MAKE) --no-print-directory layout pages tools cpp-tools cpp-test peaks
+	@$(MAKE) --no-print-directory cpp-tools
+	@$(MAKE) --no-print-directory -j3 -Oline layout pages tools cpp-test peaks
 	@echo "test: proving every crate from nothing and trying every must-fail edit; some 15 minutes" >&2
 	@RT_JOBS=$${RT_JOBS:-4} python3 tests/edits/gate.py
+
+# Of jobs that run beside each other, one at a time may prove: rt writes to target/.
+PROVE = mkdir -p target && flock target/prove.lock rt
 
 # rt runs the program on crates/peaks/stdin, on any processor, and keeps what it printed. Of what rt says, the lines on
 # each crate are shown, and all of it if something is not proved.
 run:
 	@mkdir -p target
 	@echo "run: proving peaks and each crate below it that changed; two to three minutes the first time" >&2
-	@{ rt check peaks 2>&1; echo $$? > target/run.status; } | tee target/run.log | sed -u -n 's/^rt: /run: /p' >&2
+	@{ $(PROVE) check peaks 2>&1; echo $$? > target/run.status; } | tee target/run.log | sed -u -n 's/^rt: /run: /p' >&2
 	@test "$$(cat target/run.status)" = 0 || { cat target/run.log >&2; exit 1; }
 	@cat target/log/peaks.stdout
 

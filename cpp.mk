@@ -66,18 +66,14 @@ cpp-example: $(CPP_OUT)/example
 	@echo "example$(CPP_HOW): prints what is expected"
 
 cpp-suite: $(CPP_OUT)/suite_test
-	@printf 'hard test$(CPP_HOW): '
-	@$(CPP_RUN) $< $(CPP_PART)
+	@printf 'hard test$(CPP_HOW): '; $(CPP_RUN) $< $(CPP_PART)
 
 cpp-column: $(CPP_OUT)/column_test
-	@printf 'column at its limits$(CPP_HOW): '
-	@$(CPP_RUN) $<
+	@printf 'column at its limits$(CPP_HOW): '; $(CPP_RUN) $<
 
 cpp-small: $(CPP_OUT)/bench $(CPP_OUT)/calls
-	@printf 'benchmark$(CPP_HOW): '
-	@$(CPP_RUN) $(CPP_OUT)/bench --small
-	@printf 'benchmark of calls$(CPP_HOW): '
-	@$(CPP_RUN) $(CPP_OUT)/calls --small
+	@printf 'benchmark$(CPP_HOW): '; $(CPP_RUN) $(CPP_OUT)/bench --small
+	@printf 'benchmark of calls$(CPP_HOW): '; $(CPP_RUN) $(CPP_OUT)/calls --small
 
 ifeq ($(CPP_MACHINE),x86_64)
 cpp-bench: $(CPP_OUT)/bench $(CPP_OUT)/calls
@@ -129,7 +125,7 @@ $(CPP_OUT)/libsuite.a $(CPP_OUT)/libmeter.a: | $(CPP_OUT)
 
 target/staticlib/lib%.a: cpp-always | $(CPP_OUT)
 	@echo "archive: proving $* and each crate below it that changed, for $@; two to three minutes the first time" >&2
-	@rt staticlib $* > $(CPP_OUT)/staticlib-$*.log 2>&1 || { cat $(CPP_OUT)/staticlib-$*.log >&2; exit 1; }
+	@$(PROVE) staticlib $* > $(CPP_OUT)/staticlib-$*.log 2>&1 || { cat $(CPP_OUT)/staticlib-$*.log >&2; exit 1; }
 
 $(CPP_OUT):
 	@mkdir -p $@
