@@ -1,4 +1,4 @@
-pub mod Promises
-pub mod Inner
-pub mod WholeRun
-pub mod Claims
+pub mod Promises  -- Start, Column and End
+pub mod Inner  -- Column and End without the row
+pub mod WholeRun  -- the calls from Start to End
+pub mod Claims  -- what is claimed of these

@@ -1,2 +1,2 @@
 -- What is proved apart from any one function. Assumes nothing.
-pub mod Signed
+pub mod Signed  -- signed numbers of 32 bits in 64 bits

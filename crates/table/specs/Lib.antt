@@ -1,2 +1,2 @@
-pub mod Promises
-pub mod Inner
+pub mod Promises  -- calls that hand out records
+pub mod Inner  -- records in the work area, and a row filled with them
