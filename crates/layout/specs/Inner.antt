@@ -25,8 +25,7 @@ use Rattle.layout.specs.declared.Written.{Written}
 use Rattle.layout.specs.declared.Written.the-variants as written
 use Rattle.layout.specs.declared.ReadBack.{ReadBack}
 use Rattle.layout.specs.declared.ReadBack.the-variants as read-back
-use Rattle.layout.specs.Layout.{bitsOf, bytesOf, totalOf, headerOf, allFieldsOf, cellsIn, heightsIn}
-use Rattle.layout.specs.Layout.{recordsFrom}
+use Rattle.layout.specs.Layout.{bitsOf, bytesOf, totalOf, headerOf, allFieldsOf, cellsIn, heightsIn, recordsFrom}
 use Rattle.layout.specs.Promises.{writtenTold, writeTests, roomAfter, readTests, lentAfter, ReadAnswers}
 use Rattle.layout.specs.Promises.{signedTold, bytesAfter}
 

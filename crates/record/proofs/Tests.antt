@@ -17,7 +17,7 @@ use Rattle.relief.proofs.Tests.{true-not-false}
 use Rattle.record.specs.declared.Refusal.{Refusal}
 use Rattle.record.specs.declared.Checked.{Checked}
 use Rattle.record.specs.declared.Checked.the-variants.{Good, Bad}
-use Rattle.record.specs.Refusals.{Told, granted, toldOf, checkedTold, firstOf, toldBy}
+use Rattle.record.specs.Refusals.{Told, granted, checkedTold, firstOf, toldBy}
 use Rattle.record.specs.Inner.{thenTest}
 use Rattle.record.proofs.Refusals.{told-refused}
 

@@ -17,7 +17,7 @@ use lib.Seq.{paste, paste-suc, length-paste, take-paste, take-length, take-take}
 use Rattle.relief.specs.Heights.{levels}
 use Rattle.relief.specs.Peaks.{Entry}
 use Rattle.relief.specs.Runs.{Stage, Batch, Rest, Closing, Remaining}
-use Rattle.relief.specs.Plane.{Shape, planeOf, touchOf, newestOf, stageOf}
+use Rattle.relief.specs.Plane.{planeOf, touchOf, newestOf, stageOf}
 use Rattle.relief.specs.Inner.{cut}
 use Rattle.relief.proofs.Tests.{split, le-or-lt}
 use Rattle.relief.proofs.BatchSurvey.{surveyBatch, surveyRest, survey-batch, survey-rest}
@@ -25,7 +25,7 @@ use Rattle.relief.proofs.Levels.{levels-end, levels-take, cut-below, cut-behind
 use Rattle.relief.proofs.Shapes.{touch?, stage-staged}
 use Rattle.record.specs.declared.Refusal.{Refusal}
 use Rattle.record.specs.declared.Checked.{Checked}
-use Rattle.record.specs.declared.Checked.the-variants.{Good, Bad}
+use Rattle.record.specs.declared.Checked.the-variants.{Bad}
 use Rattle.record.specs.declared.Handed.{Handed}
 use Rattle.record.specs.declared.Handed.the-variants.{Refused}
 use Rattle.record.specs.Refusals.{firstOf}
@@ -35,8 +35,7 @@ use Rattle.table.proofs.Handed.{worked-late, flat-refused, flat-made}
 use Rattle.survey.specs.Answers.{entriesIn, Loading, Loaded, Surveying, Answered, stageIn}
 use Rattle.survey.proofs.Records.{places-record, places-length}
 use Rattle.run.specs.declared.Run.{Run}
-use Rattle.run.specs.Promises.{shapeOf, heldOf, columnTests, endTests, columnGrid, columnRun, endRun}
-use Rattle.run.specs.Promises.{heightsWith, ColumnBatch, EndRest}
+use Rattle.run.specs.Promises.{shapeOf, heldOf, columnTests, endTests, columnGrid, columnRun, endRun, heightsWith}
 use Rattle.run.specs.Inner.{ColumnsFlat, EndsFlat, GoodColumn, GoodEnd}
 
 -- ---- the copy of a column

@@ -6,8 +6,8 @@
 -- Assumes nothing.
 use mathlib.Core.Path.{_≡_, refl, sym, _∙_, ap, ap₂}
 use mathlib.Core.Bool.{Bool, true, false, cond}
-use mathlib.Core.List.{List, [], _∷_, _++_}
-use Prim.Native.Nat.{ℕ, _+_, _*_, _≤_, _<_}
+use mathlib.Core.List.{List, [], _++_}
+use Prim.Native.Nat.{ℕ, _+_, _*_, _≤_}
 use native.Mathlib.Nat.{suc-mul}
 use native.Mathlib.Numerals.{add-one}
 use native.Mathlib.Omega.{arith}
@@ -17,7 +17,6 @@ use lib.ListN.{length, take, getD, length-take}
 use lib.Seq.{paste, take-paste, take-length, take-take, take-append-le}
 use Rattle.relief.proofs.Lists.{order-unique}
 use Rattle.record.specs.declared.Peak.{Peak}
-use Rattle.record.specs.declared.Refusal.{Refusal}
 use Rattle.record.specs.declared.Refusal.the-variants.{Rows}
 use Rattle.record.specs.declared.Checked.{Checked}
 use Rattle.record.specs.declared.Checked.the-variants.{Good, Bad}
@@ -32,8 +31,8 @@ use Rattle.run.specs.declared.Started.the-variants as started
 use Rattle.run.specs.Promises.{heldOf, startedRun, startedTold, Starts, columnTests, columnGrid, columnRun}
 use Rattle.run.specs.Promises.{endRun, Columns}
 use Rattle.run.specs.Inner.{GoodColumn}
-use Rattle.run.specs.Claims.{StartUnique, ColumnUnique, EndUnique, ColumnFlatUnique, EndFlatUnique}
-use Rattle.run.specs.Claims.{ColumnTakes, ColumnKeeps}
+use Rattle.run.specs.Claims.{StartUnique, ColumnUnique, EndUnique, ColumnFlatUnique, EndFlatUnique, ColumnTakes}
+use Rattle.run.specs.Claims.{ColumnKeeps}
 use Rattle.run.proofs.Checks.{column-passed}
 
 -- ---- Start

@@ -5,7 +5,6 @@
 --     run-holds     so with End the batches hold the list
 -- Assumes nothing.
 use mathlib.Core.Path.{_≡_, refl, sym, _∙_, ap, subst, subst₂}
-use mathlib.Core.Bool.{true, false}
 use mathlib.Core.List.{List, [], _∷_, _++_}
 use Prim.Native.Nat.{ℕ, suc, _+_, _*_, _≤_, _<_}
 use native.Mathlib.Nat.{suc-mul, zero-mul, mul-le-mul-right, not-suc-le-zero}
@@ -23,7 +22,7 @@ use Rattle.theorems.proofs.Claims.{shape-touching, claims}
 use Rattle.record.specs.declared.Handed.the-variants.{Count}
 use Rattle.run.specs.declared.Run.{Run}
 use Rattle.run.specs.declared.Started.the-variants as started
-use Rattle.run.specs.Promises.{shapeOf, heldOf, startedRun, columnRun, Starts}
+use Rattle.run.specs.Promises.{shapeOf, heldOf, columnRun, Starts}
 use Rattle.run.specs.WholeRun.{Calls, begun, taken, refused, unended}
 use Rattle.run.specs.Claims.{RunHolds}
 use Rattle.run.proofs.Outcomes.{start-begun, taken-passed}

@@ -25,8 +25,7 @@ use ghost.Atoms.{Atoms, sem}
 use contract.Lifetimes.{Lfts}
 use contract.Monad.{Fun, fact}
 use types.Kit.{Given, Item, ‵, raw, _⊛_, some, later, ⋆, Post, Seq, runs, lands, _$_, _∵_, !, qed, move, keep, drop}
-use types.Kit.{group}
-use types.Kit.{use1, use2, split, join, pick, fsplit, fjoin, feqL, frame, await, show, done}
+use types.Kit.{group, use1, use2, split, join, pick, fsplit, fjoin, feqL, frame, await, show, done}
 use types.Run.{Opds}
 use types.Tokens.{lft-new, lft-end}
 use sound.WpLaws.{FmC}

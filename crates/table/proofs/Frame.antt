@@ -18,8 +18,7 @@ use base.Fml.{fobs, fauth, fres, fbor, fobor, flent, fshr-bor}
 use prog.Wp.{Heap, Env}
 use ghost.Atoms.{Atoms}
 use types.Kit.{Given, Item, ‵, raw, _⊛_, some, given, later, mean, ⋆, push, nth, del, pull, Goal, allocs, frees, Seq}
-use types.Kit.{Step}
-use types.Kit.{step, _$_}
+use types.Kit.{Step, step, _$_}
 use types.Run.{alloc1, alloc0, free1}
 
 -- the block b for the first local, and l for those after it

@@ -25,8 +25,7 @@ use Rattle.relief.proofs.Levels.{heightOf-level}
 use Rattle.record.specs.declared.Peak.{Peak}
 use Rattle.record.specs.Records.{withKey, withoutKey}
 use Rattle.record.proofs.Levels.{level-injective}
-use Rattle.area.specs.Area.{levelIn, orderIn, parentIn, passIn}
-use Rattle.area.specs.Area.{cellIn}
+use Rattle.area.specs.Area.{levelIn, orderIn, parentIn, passIn, cellIn}
 use Rattle.table.specs.Inner.{Pointed, peakIn, recordsIn, Standing}
 
 -- ---- one record

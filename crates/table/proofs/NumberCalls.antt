@@ -17,8 +17,7 @@ use prog.Routine.{Routine}
 use prog.Wp.{Heap, Env, Calls, Loops}
 use ghost.Atoms.{Atoms, sem}
 use contract.Monad.{Fun, fact}
-use types.Kit.{Given, Item, raw, Post, Seq, runs, lands, _$_, _∵_, !, qed}
-use types.Kit.{join, fjoin, frame, done}
+use types.Kit.{Given, Item, raw, Post, Seq, runs, lands, _$_, _∵_, !, qed, join, fjoin, frame, done}
 use types.Run.{Opds}
 use sound.WpLaws.{FmC}
 use denote.Laws.{Is}

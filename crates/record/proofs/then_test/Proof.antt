@@ -1,5 +1,5 @@
 -- `record::then_test` meets its contract: by cases, as `thenTest` goes. Assumes nothing.
-use mathlib.Core.Path.{_≡_, sym, _∙_, ap₂}
+use mathlib.Core.Path.{_≡_, sym, ap₂}
 use mathlib.Core.Bool.{Bool, true}
 use borrow.Author.Needs.{needs}
 use Rattle.record.specs.declared.Refusal.{Refusal}

@@ -1,7 +1,5 @@
 -- `column_good`: the column is copied behind the taken cells, their levels loaded and surveyed, and the room decides
 -- between 5 and the count; `Columns` puts the calls' promises together. Assumes nothing.
-use mathlib.Core.Path.{refl}
-use native.Mathlib.Omega.{arith}
 use denote.Ref.{now}
 use borrow.Author.Needs.{needs}
 use Rattle.run.proofs.Checks.{sum-fits}

@@ -37,8 +37,7 @@ use denote.Steps.{only, owned, nothing}
 use denote.Struct.Laws as LL
 use denote.Triple.Statement.{Triple}
 use denote.Triple.Entry.{onEntry}
-use denote.Triple.Walked.{says, Stays, walkOf}
-use denote.Triple.Walked.{ends-at}
+use denote.Triple.Walked.{says, Stays, walkOf, ends-at}
 use denote.Exit.{yes as kept}
 use Rattle.record.specs.declared.Peak.{Peak}
 use Rattle.record.proofs.Peak as T

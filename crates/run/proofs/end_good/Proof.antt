@@ -1,6 +1,5 @@
 -- `end_good`: the levels of the held cells are loaded and surveyed, and the room decides between 5 and the count.
 -- Assumes nothing.
-use mathlib.Core.Path.{refl}
 use denote.Ref.{now}
 use borrow.Author.Needs.{needs}
 use Rattle.run.proofs.Columns.{end-loading, end-surveying, end-few, end-made}

@@ -1,11 +1,10 @@
 -- `start`: by its one test. Assumes nothing.
-use mathlib.Core.Path.{_≡_, refl, sym, _∙_, ap}
+use mathlib.Core.Path.{_≡_, sym, _∙_, ap}
 use mathlib.Core.Bool.{Bool, true, false, cond}
 use mathlib.Core.List.{[], _∷_}
 use Prim.Native.Nat.{ℕ}
 use borrow.Author.Needs.{needs}
 use Rattle.record.specs.declared.Refusal.the-variants.{Rows}
-use Rattle.record.specs.declared.Checked.{Checked}
 use Rattle.record.specs.declared.Checked.the-variants.{Good, Bad}
 use Rattle.record.specs.Refusals.{Told, firstOf, checkedTold, badRows}
 use Rattle.run.specs.declared.Run.{Run}

@@ -59,8 +59,7 @@ use Rattle.layout.proofs.records.put_record.Symbol.{name as #layout·put-record
 use Rattle.runfile.proofs.put_records as put
 use Rattle.runfile.proofs.put_records.Proof.End.{R, recordsVal, Recs, args, vals, Ended, exits}
 use Rattle.runfile.proofs.put_records.Proof.PutCall.{PutOne, RoomAt, calls-put}
-use Rattle.runfile.proofs.put_records.Proof.Turn.{none, at-length, within, enough}
-use Rattle.runfile.proofs.put_records.Proof.Turn.{next-is}
+use Rattle.runfile.proofs.put_records.Proof.Turn.{none, at-length, within, enough, next-is}
 use Rattle.runfile.proofs.put_records.Code as code
 use Rattle.runfile.proofs.put_records.Code.Mir as body
 

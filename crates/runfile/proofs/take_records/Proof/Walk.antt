@@ -60,8 +60,7 @@ use Rattle.layout.proofs.records.record_from.Symbol.{name as #layout·record-fr
 use Rattle.runfile.proofs.take_records as take
 use Rattle.runfile.proofs.take_records.Proof.End.{R, args, vals, Ended, exits}
 use Rattle.runfile.proofs.take_records.Proof.RecordCall.{RecordFrom, fileVal, File, calls-record}
-use Rattle.runfile.proofs.take_records.Proof.Turn.{long, within, at-length}
-use Rattle.runfile.proofs.take_records.Proof.Turn.{within-at}
+use Rattle.runfile.proofs.take_records.Proof.Turn.{long, within, at-length, within-at}
 use Rattle.runfile.proofs.take_records.Code as code
 use Rattle.runfile.proofs.take_records.Code.Mir as body
 

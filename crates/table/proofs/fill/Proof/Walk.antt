@@ -34,8 +34,7 @@ use types.Kit.{Given, Item, ‵, _⊛_, ⋆, Sq, runs, anyQ, atRet, _$_, _∵_, 
 use types.Kit.{join, rewrite, fsplit, fjoin, feqI, suffices, frame, done}
 use types.Run.{look, store, store-raw, init, forget, stop, hop, fld, from, load, lit, unit-lit, of-opd, bin, and-then}
 use types.Run.{no-more, assigns, assigns-last, first, blocks, stays as stays-in, leaves-loop, land, returns, enter}
-use types.Run.{params1}
-use types.Run.{pass1, pass0, free0, exec, Below, again, loops}
+use types.Run.{params1, pass1, pass0, free0, exec, Below, again, loops}
 use types.Part.{whole, sub, look-in}
 use sound.WpLaws.{fmOf}
 use denote.RattleType.{RattleType, owns}
