@@ -132,12 +132,7 @@ pub fn laid(heights: &[i32], before: usize, cell: usize) -> i32 {
 
 // The record of a run that has taken so many cells.
 fn taken(rows: u32, cells: usize, threshold: u32) -> Run {
-    Run {
-        rows: rows,
-        columns: columns_of(rows, cells),
-        threshold: threshold,
-        ended: false,
-    }
+    Run::growing(rows, columns_of(rows, cells), threshold)
 }
 
 // How many columns so many cells are. There are never more cells than the second lister takes.

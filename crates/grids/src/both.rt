@@ -177,12 +177,9 @@ fn after_column(run: Run, refusal: u32) -> Run {
     if columns == u32::MAX {
         return run;
     }
-    Run {
-        rows: run.rows,
-        columns: columns + 1,
-        threshold: run.threshold,
-        ended: run.ended,
-    }
+    let mut next = run;
+    next.columns = columns + 1;
+    next
 }
 
 // "End marks the run ended".
@@ -190,12 +187,9 @@ fn after_end(run: Run, refusal: u32) -> Run {
     if refusal != 0 {
         return run;
     }
-    Run {
-        rows: run.rows,
-        columns: run.columns,
-        threshold: run.threshold,
-        ended: true,
-    }
+    let mut next = run;
+    next.ended = true;
+    next
 }
 
 fn same_run(a: Run, b: Run) -> bool {

@@ -61,12 +61,9 @@ pub fn end(run: Run, grid: &[i32], work: &mut [u8], room: usize, out: &mut Recor
 
 // A run record at T = 1.
 pub fn taken(rows: u32, columns: u32, ended: bool) -> Run {
-    Run {
-        rows: rows,
-        columns: columns,
-        threshold: 1,
-        ended: ended,
-    }
+    let mut run = Run::growing(rows, columns, 1);
+    run.ended = ended;
+    run
 }
 
 // A number of entries that a row has.

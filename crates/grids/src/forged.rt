@@ -27,24 +27,14 @@ fn full(rows: u32) -> u32 {
 // Whether they agree on a record that is refused by Column and by End: 1, 9 or 6. A column of the wrong length changes
 // nothing, since these come first.
 fn forged(rows: u32, columns: u32, threshold: u32, ended: bool, column: &[i32]) -> bool {
-    let run = Run {
-        rows: rows,
-        columns: columns,
-        threshold: threshold,
-        ended: ended,
-    };
+    let mut run = Run::growing(rows, columns, threshold);
+    run.ended = ended;
     column_agrees(run, column) && column_agrees(run, &column[..0]) && close_agrees(run)
 }
 
 // Whether they agree on a record of a full grid, which Column refuses with 8.
 fn is_full(rows: u32, columns: u32, threshold: u32, column: &[i32]) -> bool {
-    let run = Run {
-        rows: rows,
-        columns: columns,
-        threshold: threshold,
-        ended: false,
-    };
-    column_agrees(run, column)
+    column_agrees(Run::growing(rows, columns, threshold), column)
 }
 
 // The column is offered with no room at all, so that nothing but a refusal agrees.

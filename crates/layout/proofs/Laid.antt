@@ -1,5 +1,5 @@
 -- Records laid one behind the other, from a place in bytes on.
---     left-grow, take-grows                the records that a survey left, and the front of a row, are such rows
+--     take-grows                           the front of a row is a row that grows by an item at a time
 --     Lays s at row n t i                  the invariant of a loop that lays them: t is s with the first i
 --     lays-start, lays-length, lays-step, lays-done, lays-front    its laws
 --     laid-start, laid-length, laid-step   the same for a room with records behind so many cells
@@ -15,18 +15,12 @@ use lib.Seq.{take-suc}
 use Rattle.relief.specs.Heights.{BLANK}
 use Rattle.record.specs.declared.Peak.{Peak}
 use Rattle.record.specs.Records.{withoutKey}
-use Rattle.area.specs.Area.{orderIn}
-use Rattle.table.specs.Inner.{peakIn, recordsIn}
 use Rattle.sound.specs.Sound.{ithOf}
 use Rattle.layout.specs.Layout.{bytesOf, fieldsOf, allFieldsOf, totalOf}
 use Rattle.layout.specs.Inner.{over, Puttable, laid}
 use Rattle.layout.proofs.Over.{over-nil, over-front, over-length, over-over}
 use Rattle.layout.proofs.Rows.{four-length, four-append, record-four, bytes-length, bytes-append}
-use Rattle.layout.proofs.Rows.{Grows, grows-length}
-
-pub left-grow : (s : List ℕ) (cells n : ℕ) → Grows (recordsIn s cells) (λ i. peakIn s cells (orderIn s cells i)) n
-unfolding recordsIn
-left-grow s cells n = record { start = refl; next = λ i l. refl }
+use Rattle.table.proofs.Grows.{Grows, grows-length}
 
 pub take-grows : (ps : List Peak) (n : ℕ) → n ≤ length ps → Grows (λ i. take i ps) (ithOf ps) n
 unfolding ithOf

@@ -3,28 +3,22 @@
 --     four-length, four-append, four-at        rows made of pieces of four
 --     bytes-length, bytes-append, bytes-at     the bytes of a row of numbers; bytes-word, a number of it
 --     record-four                              a record has four numbers
---     Grows row item n                         the row `row i` has the first i of the items, up to n of them
---     heights-length, heights-at               heights read from bytes
+--     heights-grow, heights-length, heights-at heights read from bytes
 --     peaks-grow, peaks-length, peaks-at       records read from bytes
---     heights-fill                             a row of heights that is filled from the front
---     filled-start, filled-step, filled-length    a table that is
 -- Assumes nothing.
 use mathlib.Core.List.{List, [], _∷_, _++_, append-assoc, flatMap}
 use mathlib.Core.Path.{_≡_, refl, sym, ap, _∙_}
-use Prim.Native.Nat.{ℕ, zero, suc, _+_, _*_, _≤_, _<_}
-use native.Mathlib.Decide.{decLt}
-use native.Mathlib.Numerals.{add-one}
+use Prim.Native.Nat.{ℕ, zero, suc, _+_, _*_, _<_}
 use native.Mathlib.Omega.{arith}
-use lib.IntN.{ℤ}
-use lib.ListN.{length, getD, set, drop, length-append, length-drop, List·getD-append}
-use lib.Seq.{getD-append-add, getD-at, drop-cons, set-at, append-snoc}
+use lib.ListN.{length, getD, length-append, List·getD-append}
+use lib.Seq.{getD-append-add}
 use Rattle.relief.specs.Heights.{BLANK}
 use Rattle.record.specs.declared.Peak.{Peak}
 use Rattle.words.specs.Words.{wordAt}
-use Rattle.layout.specs.Layout.{signedOf, wordOf, bytesOf, fieldsOf, heightsFrom, heightsIn}
-use Rattle.layout.specs.Layout.{peakFrom, peaksFrom, recordFrom, recordsFrom}
+use Rattle.layout.specs.Layout.{signedOf, wordOf, bytesOf, fieldsOf, heightsFrom}
+use Rattle.layout.specs.Layout.{peakFrom, peaksFrom}
 use Rattle.sound.specs.Sound.{ithOf}
-use Rattle.layout.specs.Inner.{filledFrom}
+use Rattle.table.proofs.Grows.{Grows, grows-length, grows-at}
 
 -- ---- pieces of four
 
@@ -91,31 +85,7 @@ record-four p = refl
 
 -- ---- rows read item by item
 
--- The row `row i` has the first i of the items, up to n of them.
-pub record Grows {A : Type 0} (row : ℕ → List A) (item : ℕ → A) (n : ℕ) : Type 0 where
-  pub start : row 0 ≡ []
-  pub next : (i : ℕ) → i < n → row (suc i) ≡ row i ++ (item i ∷ [])
-
-module _ {A : Type 0} {row : ℕ → List A} {item : ℕ → A} {n : ℕ} (g : Grows row item n) where
-  pub grows-length : (m : ℕ) → m ≤ n → length (row m) ≡ m
-  grows-length zero l = ap length (g .start)
-  grows-length (suc m) l =
-      ap length (g .next m l) ∙ length-append (row m) (item m ∷ []) ∙ omega (arith, grows-length m (omega arith))
-
-  grows-at : (d : A) (m i : ℕ) → m ≤ n → i < m → getD (row m) i d ≡ item i
-  grows-at d zero i l h = absurd (omega arith)
-  grows-at d (suc m) i l h =
-      let len = grows-length m (omega arith) in
-      let ih : i < m → getD (row m) i d ≡ item i = grows-at d m i (omega arith) in
-      ap (λ (r : List A). getD r i d) (g .next m l)
-      ∙ elim (decLt i m) [
-        | yes k ↦ List·getD-append (row m) (item m ∷ []) d i (omega arith) ∙ ih k
-        | no k ↦
-            let e : i ≡ m = omega arith in
-            rw e (getD-at (row m) (item m) [] d m len)
-      ]
-
-heights-grow : (s : List ℕ) (at n : ℕ) → Grows (heightsFrom s at) (λ i. signedOf (wordAt s (at + i))) n
+pub heights-grow : (s : List ℕ) (at n : ℕ) → Grows (heightsFrom s at) (λ i. signedOf (wordAt s (at + i))) n
 unfolding heightsFrom
 heights-grow s at n = record { start = refl; next = λ i l. refl }
 
@@ -135,37 +105,3 @@ peaks-length s at n = grows-length (peaks-grow s at n) n (omega arith)
 pub peaks-at : (s : List ℕ) (at n i : ℕ) → i < n → ithOf (peaksFrom s at n) i ≡ peakFrom s (at + 4 * i)
 unfolding ithOf
 peaks-at s at n i h = grows-at (peaks-grow s at n) _ n i (omega arith) h
-
--- ---- a lent row that is filled from the front
-
-fill-step :
-    {A : Type 0} (xs old : List A) (i : ℕ) (d v : A) → length xs ≡ i → i < length old →
-    set (xs ++ drop i old) i v ≡ (xs ++ (v ∷ [])) ++ drop (suc i) old
-fill-step xs old i d v e h =
-    ap (λ l. set (xs ++ l) i v) (drop-cons old i d h) ∙ set-at xs (getD old i d) (drop (suc i) old) v i e
-    ∙ sym (append-snoc xs v (drop (suc i) old))
-
-pub heights-fill :
-    (f : List ℕ) (old : List ℤ) (i : ℕ) → i < length old →
-    set (heightsIn f i ++ drop i old) i (signedOf (wordAt f (6 + i))) ≡ heightsIn f (suc i) ++ drop (suc i) old
-unfolding heightsFrom
-heights-fill f old i h =
-    fill-step (heightsIn f i) old i BLANK (signedOf (wordAt f (6 + i))) (heights-length f 6 i) h
-
-module _ (old : List Peak) (f : List ℕ) (cells : ℕ) where
-  pub filled-start : filledFrom old f cells 0 ≡ old
-  unfolding peaksFrom
-  filled-start = refl
-
-  pub filled-step :
-      (i : ℕ) → i < length old →
-      set (filledFrom old f cells i) i (recordFrom f cells i) ≡ filledFrom old f cells (i + 1)
-  unfolding peaksFrom
-  filled-step i h =
-      let p = recordFrom f cells i in
-      fill-step (recordsFrom f cells i) old i p p (peaks-length f (6 + cells) i) h ∙ rw (add-one i)
-
-  pub filled-length : (i : ℕ) → i ≤ length old → length (filledFrom old f cells i) ≡ length old
-  filled-length i h =
-      length-append (recordsFrom f cells i) (drop i old)
-      ∙ omega (arith, peaks-length f (6 + cells) i, length-drop i old)

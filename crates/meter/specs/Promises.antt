@@ -1,6 +1,5 @@
 -- The promises of the timed calls: those of `run::column`, `runfile::write` and `runfile::read`, with records passed as
 -- bytes in the file's layout and the answer as one signed number.
---     openRun rows columns T    the record of a run that has not ended
 --     lentRow records           the records lent as bytes: as many as fit whole
 --     countTold a               what `meter_read` tells: the record count alone
 --     MeterColumns, MeterWrites, MeterReads    the promises of the three calls
@@ -23,9 +22,6 @@ use Rattle.layout.specs.Promises.{writtenTold, ReadAnswers, lentAfter, signedTo
 use Rattle.runfile.specs.Promises.{Writes}
 
 -- ---- Column
-
-abbrev pub openRun : ℕ → ℕ → ℕ → Run
-openRun rows columns T = record { rows = rows; columns = columns; threshold = T; ended = false }
 
 -- `Columns` of `run`; the run record after the call follows from the answer, and the caller keeps it.
 pub record MeterColumns (run : Run) (column grid grid′ : List ℤ) (work work′ table table′ : List ℕ) (answer : ℤ)

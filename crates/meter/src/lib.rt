@@ -8,7 +8,8 @@ ghost use Rattle.sound.specs.Sound.{FirstUnsound};
 ghost use Rattle.layout.specs.Layout.{bytesOf, allFieldsOf, peaksFrom};
 ghost use Rattle.layout.specs.Promises.{writtenTold, signedTold};
 ghost use Rattle.layout.specs.Inner.{over};
-ghost use Rattle.meter.specs.Promises.{openRun, lentRow, countTold, MeterColumns, MeterWrites, MeterReads};
+ghost use Rattle.run.specs.Promises.{growingRun};
+ghost use Rattle.meter.specs.Promises.{lentRow, countTold, MeterColumns, MeterWrites, MeterReads};
 ghost use Rattle.meter.specs.Inner.{Copyable};
 use layout::ReadBack;
 use layout::Written;
@@ -59,15 +60,10 @@ pub extern "C" fn meter_column(
     work: &mut [u8],
     table: &mut [u8],
 ) -> i64
-    ensures { λ r. ⌜ MeterColumns (openRun rows columns threshold) (now (column .entry)) (now (grid .entry))
+    ensures { λ r. ⌜ MeterColumns (growingRun rows columns threshold) (now (column .entry)) (now (grid .entry))
         (now (grid .exit)) (now (work .entry)) (now (work .exit)) (now (table .entry)) (now (table .exit)) r ⌝ }
 {
-    let run = Run {
-        rows: rows,
-        columns: columns,
-        threshold: threshold,
-        ended: false,
-    };
+    let run = Run::growing(rows, columns, threshold);
     let step = run::column_flat(run, column, grid, work, table.len() / 16);
     let handed = step.handed;
     layout::hand_out(table, work, cells_with(rows, columns), handed)

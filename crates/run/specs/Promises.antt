@@ -1,5 +1,6 @@
 -- A growing run: sections "A growing run" and "What comes back" of document 01.
 --     shapeOf, takenOf, heldOf       the shape of a run, the cells that it has taken, and those that the grid holds
+--     growingRun rows columns T      the record of a run that has taken so many columns and has not ended
 --     startedRun, withColumn, withEnd   a run record at Start, with one column more, and ended
 --     startedTold, Starts            what the answer of Start tells, and its promise
 --     columnTests, endTests          the tests before the work, in the paper's order
@@ -44,9 +45,13 @@ takenOf run = run .columns * run .rows
 abbrev pub heldOf : Run → ℕ
 heldOf run = takenOf run
 
+-- A run record holds "rows, columns taken, threshold and whether the run has ended".
+abbrev pub growingRun : ℕ → ℕ → ℕ → Run
+growingRun rows columns T = record { rows = rows; columns = columns; threshold = T; ended = false }
+
 -- "Start takes rows and threshold and gives a record of zero columns."
 abbrev pub startedRun : ℕ → ℕ → Run
-startedRun rows T = record { rows = rows; columns = 0; threshold = T; ended = false }
+startedRun rows T = growingRun rows 0 T
 
 -- "the record counts one more"
 abbrev pub withColumn : Run → Run

@@ -11,7 +11,6 @@ ghost use Rattle.run.specs.Inner.{ColumnsFlat, EndsFlat, GoodColumn, Goo
 use crate::records::after_column;
 use crate::records::after_end;
 use crate::records::held_cells;
-use crate::records::start_record;
 use crate::tests::check_column;
 use crate::tests::check_end;
 use record::Checked;
@@ -46,7 +45,7 @@ pub fn start(rows: u32, threshold: u32) -> Started
     if record::bad_rows(rows) {
         return Started::Refused(Refusal::Rows);
     }
-    Started::Begun(start_record(rows, threshold))
+    Started::Begun(Run::growing(rows, 0, threshold))
 }
 
 // Copies a column behind the taken cells.

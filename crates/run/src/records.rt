@@ -1,19 +1,21 @@
 // The run record: what is read from it, and what becomes of it. No other file makes one.
 ghost use mathlib.Core.Path.{_≡_};
 ghost use Prim.Native.Nat.{_+_, _<_};
-ghost use Rattle.run.specs.Promises.{heldOf, startedRun, withColumn, withEnd, columnRun, endRun};
+ghost use Rattle.run.specs.Promises.{heldOf, growingRun, withColumn, withEnd, columnRun, endRun};
 use crate::Run;
 use record::Handed;
 
-// The record of a run of zero columns.
-pub fn start_record(rows: u32, threshold: u32) -> Run
-    ensures { λ r. ⌜ r ≡ startedRun rows threshold ⌝ }
-{
-    Run {
-        rows: rows,
-        columns: 0,
-        threshold: threshold,
-        ended: false,
+impl Run {
+    // The record of a run that has taken so many columns and has not ended.
+    pub fn growing(rows: u32, columns: u32, threshold: u32) -> Run
+        ensures { λ r. ⌜ r ≡ growingRun rows columns threshold ⌝ }
+    {
+        Run {
+            rows: rows,
+            columns: columns,
+            threshold: threshold,
+            ended: false,
+        }
     }
 }
 

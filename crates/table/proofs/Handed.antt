@@ -29,7 +29,8 @@ use Rattle.record.proofs.Refusals.{told-refused, handed-differ}
 use Rattle.record.proofs.Tests.{bad-not-good, first-end, first-before}
 use Rattle.table.specs.Promises.{handedBy, tableAfter, Worked, Hands}
 use Rattle.table.specs.Inner.{Standing, recordsIn, Fillable, roomAnswer, countIn, cellsRead, HandsFlat}
-use Rattle.table.proofs.Laws.{filled-start}
+use Rattle.table.proofs.Laws.{records-grow}
+use Rattle.table.proofs.Grows.{filled-start}
 
 pub refused-count : {r : Refusal} {n : ℕ} → Refused r ≡ Count n → ⊥
 refused-count e = let z : _≡_ {A = ℕ} 0 1 = cc in omega arith
@@ -148,7 +149,7 @@ module _ {tests : List (Bool × Refusal)} {cells : ℕ} {Right : List Entry → 
   after (Count n) e h =
       ap (λ (l : List Peak). l ++ drop n table)
       (ap (λ (k : ℕ). recordsIn left k n) (e n refl) ∙ h .records n refl)
-  after (Refused r) e h = filled-start table left 0
+  after (Refused r) e h = filled-start (records-grow left 0 0) table
 
   pub flat-hands : (a : Handed) → ((n : ℕ) → a ≡ Count n → m ≡ cells)
       → HandsFlat tests cells Right work (length table) left a → {t : List Peak}

@@ -1,32 +1,27 @@
--- Laws of the records in the work area, and of a row that is filled with them.
+-- Laws of the records in the work area.
 --     height-unique               a height of 32 bits with the level l, passed on, is `heightOf l`
 --     peak-without-key            the record of a cell that hangs under none
 --     peak-with-key               the record of another
 --     standing-pointed             what `record_at` asks of the i-th cell, of a work area with so many listed cells
---     filled t s n i              the row t with the first i records in place of its own
---     filled-start, filled-step   it is t at 0, and one more record stored makes it that of i + 1
---     filled-length               it is as long as t
+--     records-grow                the records of the first cells of the order are a row that grows
 -- Assumes nothing.
-use mathlib.Core.Path.{_≡_, refl, sym, ap, _∙_}
-use mathlib.Core.List.{List, [], _∷_, _++_}
-use Prim.Native.Nat.{ℕ, zero, suc, _+_, _≤_, _<_}
-use native.Mathlib.Numerals.{add-one}
+use mathlib.Core.Path.{_≡_, refl, sym, _∙_}
+use mathlib.Core.List.{List}
+use Prim.Native.Nat.{ℕ, _<_}
 use native.Mathlib.Omega.{arith}
 use borrow.Author.Tests.{eq-eqb, ne-eqb}
 use lib.IntN.{ℤ}
-use lib.ListN.{length, drop, set, getD, length-append, length-drop}
-use lib.Seq.{drop-cons, append-snoc, set-at}
 use lib.Signed.{mag}
 use mir.Syntax.{w32}
 use mir.Val.{toZ, ofZ, SFits}
 use mir.ValLaws.{toZ-ofZ}
 use Rattle.relief.specs.Heights.{levelOf, heightOf}
 use Rattle.relief.proofs.Levels.{heightOf-level}
-use Rattle.record.specs.declared.Peak.{Peak}
 use Rattle.record.specs.Records.{withKey, withoutKey}
 use Rattle.record.proofs.Levels.{level-injective}
 use Rattle.area.specs.Area.{levelIn, orderIn, parentIn, passIn, cellIn}
 use Rattle.table.specs.Inner.{Pointed, peakIn, recordsIn, Standing}
+use Rattle.table.proofs.Grows.{Grows}
 
 -- ---- one record
 
@@ -54,36 +49,8 @@ standing-pointed h i l =
     let f = h .few in
     (omega arith, record { area = h .area; cell = h .cells i l; pass = h .passes i l })
 
--- ---- a row that is filled
+-- ---- the records in the order
 
-abbrev pub filled : List Peak → List ℕ → ℕ → ℕ → List Peak
-filled t s n i = recordsIn s n i ++ drop i t
-
-records-length : (s : List ℕ) (n i : ℕ) → length (recordsIn s n i) ≡ i
+pub records-grow : (s : List ℕ) (n count : ℕ) → Grows (recordsIn s n) (λ i. peakIn s n (orderIn s n i)) count
 unfolding recordsIn
-records-length s n zero = refl
-records-length s n (suc i) =
-    let e = records-length s n i in
-    let l = length-append (recordsIn s n i) (peakIn s n (orderIn s n i) ∷ []) in
-    omega arith
-
-pub filled-start : (t : List Peak) (s : List ℕ) (n : ℕ) → filled t s n 0 ≡ t
-unfolding recordsIn
-filled-start t s n = refl
-
-pub filled-step : (t : List Peak) (s : List ℕ) (n i : ℕ) → i < length t
-    → set (filled t s n i) i (peakIn s n (orderIn s n i)) ≡ filled t s n (i + 1)
-unfolding recordsIn
-filled-step t s n i l =
-    let p = peakIn s n (orderIn s n i) in
-    ap (λ (r : List Peak). set (recordsIn s n i ++ r) i p) (drop-cons t i p l)
-    ∙ set-at (recordsIn s n i) (getD t i p) (drop (suc i) t) p i (records-length s n i)
-    ∙ sym (append-snoc (recordsIn s n i) p (drop (suc i) t))
-    ∙ ap (filled t s n) (sym (add-one i))
-
-pub filled-length : (t : List Peak) (s : List ℕ) (n i : ℕ) → i ≤ length t → length (filled t s n i) ≡ length t
-filled-length t s n i l =
-    let e = records-length s n i in
-    let a = length-append (recordsIn s n i) (drop i t) in
-    let d = length-drop i t in
-    omega arith
+records-grow s n count = record { start = refl; next = λ i l. refl }

@@ -12,8 +12,10 @@ hand-out-requires : tie.Need-hand-out-requires
 hand-out-requires c κs =
     let at-flat = c .before .before .before .before .before .before in
     let flat = at-flat .column-flat in
-    let a = at-flat .before .before .before .before .before .args in
-    rw (c .cells-with .ensures) (flat-handable (now (a .table)) (flat .result .handed) (flat .ensures .hands))
+    let at-run = at-flat .before .before .before in
+    let left = rw (at-run .growing .ensures) at (flat .ensures) in
+    rw (c .cells-with .ensures)
+    (flat-handable (now (at-run .before .before .before .args .table)) (flat .result .handed) (left .hands))
 
 returns : tie.Need-returns
 returns c =
@@ -21,17 +23,18 @@ returns c =
     let at-cells = at-out .before in
     let at-flat = at-cells .before .before .before .before .before .before in
     let flat = at-flat .column-flat in
-    let a = at-flat .before .before .before .before .before .args in
+    let at-run = at-flat .before .before .before in
+    let left = rw (at-run .growing .ensures) at (flat .ensures) in
     record {
       hands =
           rw (toZ-ofZ w64 (at-out .hand-out .result) (record { sfits = at-out .hand-out .ok }))
-          (flat-bytes (now (a .table)) (flat .result .handed) (flat .ensures .hands)
+          (flat-bytes (now (at-run .before .before .before .args .table)) (flat .result .handed) (left .hands)
           (rw (at-cells .cells-with .ensures) at (at-out .hand-out .ensures)));
-      grid-after = flat .ensures .grid-after;
+      grid-after = left .grid-after;
     }
 
 pub meter-column-spec : {M : Type 1} → statement M
 meter-column-spec =
     tie.close
-    (tie.spec (λ c κs. search needs) (λ c κs. search needs) hand-out-requires (λ c. search needs) (λ c. search needs)
-    (λ c. search needs) returns)
+    (tie.spec (λ c κs. search needs) (λ c κs. search needs) (λ c κs. search needs) hand-out-requires (λ c. search needs)
+    (λ c. search needs) (λ c. search needs) returns)

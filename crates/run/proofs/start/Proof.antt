@@ -39,7 +39,7 @@ returns-2 : tie.Need-returns-2
 returns-2 c =
     let at-rows = c .before .before in
     let a = at-rows .before .args in
-    begun (a .rows) (a .threshold) (at-rows .bad-rows .ensures) (c .before .if1 .left) (c .start-record .ensures)
+    begun (a .rows) (a .threshold) (at-rows .bad-rows .ensures) (c .before .if1 .left) (c .growing .ensures)
 
 pub start-spec : {M : Type 1} → statement M
 start-spec = tie.close (tie.spec (λ c κs. search needs) returns (λ c κs. search needs) returns-2)

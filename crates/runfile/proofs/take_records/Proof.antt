@@ -1,35 +1,34 @@
--- `runfile::take_records` meets its contract: its walk (`Proof/Walk.antt`) is taken to the contract. All that is known
--- of `record_from` is its contract. Assumes nothing.
-mod End
-mod RecordCall
-mod Turn
-mod Walk
-use mathlib.Core.List.{[]}
-use contract.Running.{givenOf, tables, tablesOf}
-use denote.Signature.{plain}
-use denote.Triple.Walked.{needs}
-use denote.Builtin.{unit}
+-- `runfile::take_records` meets its contract: it is a filler (`Filling` of the crate `table`), whose callee is
+-- `record_from`. Assumes nothing.
+use Prim.Native.Nat.{_+_, _≤_}
+use native.Mathlib.Omega.{arith}
+use lib.ListN.{length}
+use Rattle.layout.specs.Layout.{recordFrom, recordsFrom, totalOf}
 use Rattle.layout.specs.Inner.{Takable}
+use Rattle.layout.proofs.Rows.{peaks-grow}
 use Rattle.layout.proofs.records.record_from.Symbol as record-from-def
 use Rattle.layout.proofs.records.record_from.Met as record-from-thm
-use Rattle.runfile.proofs.take_records.Proof.RecordCall.{RecordFrom}
-use Rattle.runfile.proofs.take_records.Proof.End.{parameters}
-use Rattle.runfile.proofs.take_records.Proof.Walk.{walk}
 use Rattle.runfile.proofs.take_records.Key.{name as #runfile·take-records}
-use Rattle.runfile.proofs.take_records as take
 use Rattle.runfile.proofs.take_records.Statement as stated
 use Rattle.runfile.proofs.take_records.Code as code
-use Rattle.table.proofs.Walks.{closes, knows}
+use Rattle.table.proofs.Filling.{Filler, Read, fills}
+use Rattle.table.proofs.Walks.{knows}
+
+abbrev filler : Filler
+filler = record {
+  callee = record-from-def.name;
+  Asks = λ s n i. totalOf n (i + 1) ≤ length s;
+  item = recordFrom;
+  rows = recordsFrom;
+  grows = λ s n. peaks-grow s (6 + n);
+  Can = Takable;
+  room = λ can. can .room;
+  asked = λ can i less. omega (arith, can .long (omega arith));
+}
 
 pub take-records-spec : {M : Type 1} → stated.statement M
-unfolding code.routine tablesOf
+unfolding code.routine
 take-records-spec 𝓤 H 𝓜 𝓖 𝓡 =
-    closes 𝓤 H 𝓜 𝓖 𝓡 parameters (plain (λ _. unit)) (take.clauses 𝓤 H (𝓖 .A) (𝓜 .mem) (𝓡 .run))
-    code.env #runfile·take-records code.function (code.unfolded 𝓤 H 𝓜 𝓡)
-    (λ fm κs qs a g are. needs 𝓤 (Takable (a .0 .now) (a .1 .0 .now) (a .1 .1 .0) (a .1 .1 .1 .0)) _ (λ can.
-    walk 𝓤 H (𝓖 .A) (givenOf 𝓤 H 𝓜 𝓖) (𝓜 .mem) (𝓡 .run) (κs .0) (κs .1 .0) (qs .0) (qs .1 .0)
-    (a .0 .ptr .0) (a .0 .ptr .1) (a .0 .name) (a .0 .now) (a .1 .0) (a .1 .1 .0) (a .1 .1 .1 .0)
-    (are .1 .1 .0 .1) (are .1 .1 .1 .0 .1) (are .0 .0 .1) (are .1 .0 .0 .1) can
-    (tablesOf 𝓤 H 𝓜 (tables 𝓤 H 𝓜 𝓡 code.env))
-    (knows RecordFrom record-from-def.name record-from-def.routine record-from-thm.met 𝓤 H 𝓜 𝓖 𝓡
-    code.env code.calls-layout·record-from)))
+    fills filler 𝓤 H 𝓜 𝓖 𝓡 code.env #runfile·take-records (code.unfolded 𝓤 H 𝓜 𝓡)
+    (knows (λ 𝓤 H A mem run. Read filler 𝓤 H A) record-from-def.name record-from-def.routine record-from-thm.met
+    𝓤 H 𝓜 𝓖 𝓡 code.env code.calls-layout·record-from)

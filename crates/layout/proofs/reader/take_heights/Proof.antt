@@ -1,35 +1,32 @@
 -- `layout::take_heights` meets its contract. The invariant: the first i heights are the file's, the others as they
 -- were. The measure is what is left of the heights. Assumes nothing.
-use mathlib.Core.List.{List, _++_}
+use mathlib.Core.List.{List}
 use mathlib.Core.Path.{_≡_, refl, ap, _∙_}
 use Prim.Native.Nat.{ℕ, _-_, _≤_}
-use native.Mathlib.Numerals.{add-one}
 use native.Mathlib.Omega.{arith}
 use denote.Ref.{now}
 use lib.IntN.{ℤ}
-use lib.ListN.{length, drop, length-append, length-drop}
+use lib.ListN.{length}
 use mir.Syntax.{w32}
 use mir.Val.{SFits}
 use mir.ValLaws.{toZ-ofZ}
 use borrow.Author.Needs.{needs}
 use Rattle.layout.specs.Layout.{signedOf, heightsFrom, heightsIn}
-use Rattle.layout.proofs.Rows.{heights-length, heights-fill}
+use Rattle.table.proofs.Grows.{filled, filled-step, filled-length}
+use Rattle.layout.proofs.Rows.{heights-grow}
 use Rattle.layout.proofs.reader.take_heights.Statement.{statement}
 use Rattle.layout.proofs.reader.take_heights.Tie as tie
 
 abbrev Inv-loop : tie.InvT-loop
-Inv-loop file heights₀ n i₀ heights i = (i ≤ n) × (heights ≡ heightsIn file i ++ drop i heights₀)
+Inv-loop file heights₀ n i₀ heights i = (i ≤ n) × (heights ≡ filled (heightsIn file) heights₀ i)
 
 abbrev μ-loop : tie.MeasureT-loop
 μ-loop file heights₀ n i₀ heights i = n - i
 
 -- The length of the lent row stays.
-filled-length :
-    (f : List ℕ) (old new : List ℤ) (i : ℕ) → i ≤ length old → new ≡ heightsIn f i ++ drop i old →
-    length new ≡ length old
-filled-length f old new i h e =
-    ap length e ∙ length-append (heightsIn f i) (drop i old)
-    ∙ omega (arith, heights-length f 6 i, length-drop i old)
+same : (f : List ℕ) (old new : List ℤ) (i : ℕ) → i ≤ length old → new ≡ filled (heightsIn f) old i
+    → length new ≡ length old
+same f old new i h e = ap length e ∙ filled-length (heights-grow f 6 i) old i (omega arith) h
 
 loop-holds : tie.Need-loop-holds Inv-loop μ-loop
 unfolding heightsFrom
@@ -53,8 +50,7 @@ slice-set-from-heights c =
     let loop = c .before .before .before .loop in
     omega (
       arith,
-      filled-length (now (args .file)) (now (args .heights)) (loop .heights) (loop .i) (omega arith)
-          (loop .inv .1),
+      same (now (args .file)) (now (args .heights)) (loop .heights) (loop .i) (omega arith) (loop .inv .1),
     )
 
 add-i : tie.Need-add-i Inv-loop μ-loop
@@ -71,15 +67,16 @@ loop-again c =
     let fits : SFits w32 (c .signed .result) = record { sfits = c .signed .ok } in
     let value = toZ-ofZ w32 (c .signed .result) fits ∙ c .signed .ensures ∙ ap signedOf (c .before .get .ensures) in (
       omega arith,
-      rw (add-one (loop .i), value, loop .inv .1)
-          (heights-fill (now (args .file)) (now (args .heights)) (loop .i) (omega arith)),
+      rw (value, loop .inv .1)
+          (filled-step (heights-grow (now (args .file)) 6 (args .n)) (now (args .heights)) (loop .i) (omega arith)
+          (omega arith)),
     )
 
 same-length : tie.Need-same-length Inv-loop μ-loop
 same-length c =
     let args = c .before .before .before .args in
     let loop = c .before .loop in
-    filled-length (now (args .file)) (now (args .heights)) (loop .heights) (loop .i) (omega arith) (loop .inv .1)
+    same (now (args .file)) (now (args .heights)) (loop .heights) (loop .i) (omega arith) (loop .inv .1)
 
 returns : tie.Need-returns Inv-loop μ-loop
 returns c =

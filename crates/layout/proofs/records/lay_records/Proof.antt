@@ -5,7 +5,8 @@ use native.Mathlib.Omega.{arith}
 use denote.Ref.{now}
 use Rattle.table.proofs.Laws.{standing-pointed}
 use Rattle.table.specs.Inner.{recordsIn}
-use Rattle.layout.proofs.Laid.{Lays, left-grow, lays-start, lays-length, lays-step, lays-front}
+use Rattle.table.proofs.Laws.{records-grow}
+use Rattle.layout.proofs.Laid.{Lays, lays-start, lays-length, lays-step, lays-front}
 use Rattle.layout.proofs.records.lay_records.Statement.{statement}
 use Rattle.layout.proofs.records.lay_records.Tie as tie
 
@@ -16,7 +17,7 @@ abbrev μ-loop : tie.MeasureT-loop
 μ-loop table₀ work n count i₀ table i = count - i
 
 loop-holds : tie.Need-loop-holds Inv-loop μ-loop
-loop-holds c = let a = c .before .before .args in lays-start (left-grow (now (a .work)) (a .n) (a .count))
+loop-holds c = let a = c .before .before .args in lays-start (records-grow (now (a .work)) (a .n) (a .count))
 
 record-at-requires : tie.Need-record-at-requires Inv-loop μ-loop
 record-at-requires c κs =
@@ -30,7 +31,7 @@ put-peak-requires c κs =
     let a = at-entry .args in
     omega (
       arith,
-      lays-length (left-grow (now (a .work)) (a .n) (a .count)) (at-loop .loop .inv)
+      lays-length (records-grow (now (a .work)) (a .n) (a .count)) (at-loop .loop .inv)
           (λ l. omega (arith, at-entry .pre .1)),
     )
 
@@ -41,7 +42,7 @@ loop-again c =
     let at-loop = at-test .before in
     let at-entry = at-loop .before .before .before in
     let a = at-entry .args in
-    lays-step (left-grow (now (a .work)) (a .n) (a .count)) (at-loop .loop .inv)
+    lays-step (records-grow (now (a .work)) (a .n) (a .count)) (at-loop .loop .inv)
     (λ l. omega (arith, at-entry .pre .1))
     (at-test .loop-test .taken) (at-put .before .record-at .ensures) (omega arith) (at-put .put-peak .ensures)
 
@@ -49,14 +50,14 @@ same-length : tie.Need-same-length Inv-loop μ-loop
 same-length c =
     let at-entry = c .before .before .before .before in
     let a = at-entry .args in
-    lays-length (left-grow (now (a .work)) (a .n) (a .count)) (c .before .loop .inv)
+    lays-length (records-grow (now (a .work)) (a .n) (a .count)) (c .before .loop .inv)
     (λ l. omega (arith, at-entry .pre .1))
 
 returns : tie.Need-returns Inv-loop μ-loop
 returns c =
     let at-entry = c .before .before .before .before in
     let a = at-entry .args in
-    lays-front (left-grow (now (a .work)) (a .n) (a .count)) (c .before .loop .inv) (c .loop-test .left)
+    lays-front (records-grow (now (a .work)) (a .n) (a .count)) (c .before .loop .inv) (c .loop-test .left)
 
 pub lay-records-spec : {M : Type 1} → statement M
 lay-records-spec =
