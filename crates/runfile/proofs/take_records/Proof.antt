@@ -1,4 +1,4 @@
--- `runfile::take_records` meets its contract: it is a filler (`Filling` of the crate `table`), whose callee is
+-- `runfile::take_records` meets its contract: it is a filler (`Filler` of the crate `table`), whose callee is
 -- `record_from`. Assumes nothing.
 use Prim.Native.Nat.{_+_, _≤_}
 use native.Mathlib.Omega.{arith}
@@ -11,7 +11,7 @@ use Rattle.layout.proofs.records.record_from.Met as record-from-thm
 use Rattle.runfile.proofs.take_records.Key.{name as #runfile·take-records}
 use Rattle.runfile.proofs.take_records.Statement as stated
 use Rattle.runfile.proofs.take_records.Code as code
-use Rattle.table.proofs.Filling.{Filler, Read, fills}
+use Rattle.table.proofs.Filler.{Filler, Read, fills}
 use Rattle.table.proofs.Walks.{knows}
 
 abbrev filler : Filler

@@ -1,9 +1,9 @@
--- `table::fill` meets its contract: it is a filler (`Filling`), whose callee is `record_at`. Assumes nothing.
+-- `table::fill` meets its contract: it is a filler (`Filler`), whose callee is `record_at`. Assumes nothing.
 use Prim.Native.Nat.{_<_}
 use Rattle.area.specs.Area.{orderIn}
 use Rattle.table.specs.Inner.{Pointed, peakIn, recordsIn, Fillable}
 use Rattle.table.proofs.Laws.{records-grow, standing-pointed}
-use Rattle.table.proofs.Filling.{Filler, Read, fills}
+use Rattle.table.proofs.Filler.{Filler, Read, fills}
 use Rattle.table.proofs.Walks.{knows}
 use Rattle.table.proofs.record_at.Symbol as record-at-def
 use Rattle.table.proofs.record_at.Met as record-at-thm

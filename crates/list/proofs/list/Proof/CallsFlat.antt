@@ -4,7 +4,7 @@
 --     Left                what it leaves: a list as long in the work area, and what it ensures of that
 --     calls-flat          the caller has the two slices, each with its token, and has them after it, with the answer
 -- `os` reads the arguments with three entries in front: what `flat` asks, `heights`, and what is kept of the work area.
--- After `proofs/put_back` of the kit's example `writer`, and `proofs/Filling` of the crate `table`. Assumes `Given`.
+-- After `proofs/put_back` of the kit's example `writer`, and `FillCall` of the crate `table`. Assumes `Given`.
 use mathlib.Core.Path.{_≡_, refl}
 use mathlib.Core.List.{List, [], _∷_}
 use Prim.Native.Nat.{ℕ, _<_, _^_}

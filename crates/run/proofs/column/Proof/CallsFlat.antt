@@ -6,7 +6,7 @@
 --     calls-flat          the caller has the three slices, each with its token; after it, the column, the grid's last
 --                         list, the work area and the tokens, with the step
 -- `os` reads the arguments with three entries in front: what `column_flat` asks, the column, and what is kept of the
--- work area. After `proofs/put_back` of the kit's example `writer`, and `proofs/Filling` of the crate `table`.
+-- work area. After `proofs/put_back` of the kit's example `writer`, and `FillCall` of the crate `table`.
 -- Assumes `Given`.
 use mathlib.Core.Path.{_≡_, refl}
 use mathlib.Core.List.{List, [], _∷_}

@@ -79,7 +79,7 @@ filling f = record {
   body = seq (set-to 5 (rvOpd (int w64 0))) (seq (block (loop (turn f))) last);
 }
 
--- ---- the contracts
+-- ---- the contracts: of the callee, which reads, and of the function
 
 abbrev reader : List (Parameter 1)
 reader = shared 0 tt u8 ∷ number w64 ∷ number w64 ∷ []

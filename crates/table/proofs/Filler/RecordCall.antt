@@ -15,7 +15,7 @@ use Rattle.table.proofs.Logic.{drop, raw, some, runs, pick, Seq, later,
 use Rattle.table.proofs.Logic.{Opds, FmC, u8, usize, Is, shows, uint-makes, RefT, sliceVal, ShrSlice}
 use Rattle.table.proofs.Logic.{shr-slice-copy, nothing, owned, heard, calls-at, lasts, ensured, Triple, says}
 use Rattle.record.specs.declared.Peak.{Peak}
-use Rattle.table.proofs.Filling.Function.{Filler, R, Reader, reads, Read}
+use Rattle.table.proofs.Filler.Function.{Filler, R, Reader, reads, Read}
 
 abbrev pub bytesVal : RefT (List ℕ) → Val
 bytesVal s = sliceVal (s .ptr) (length (s .now))

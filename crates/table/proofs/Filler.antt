@@ -10,9 +10,9 @@ use prog.Wp.{Closed}
 use contract.Running.{Running, GhostRules, tables}
 use Rattle.table.proofs.Logic.{URA, Name, Heap, givenOf, tablesOf, unit, plain, Triple, needs}
 use Rattle.table.proofs.Walks.{closes}
-pub use Rattle.table.proofs.Filling.Function.{Filler, Read}
-use Rattle.table.proofs.Filling.Function.{filling, parameters, promised, Fills}
-use Rattle.table.proofs.Filling.Walk.{walk}
+pub use Rattle.table.proofs.Filler.Function.{Filler, Read}
+use Rattle.table.proofs.Filler.Function.{filling, parameters, promised, Fills}
+use Rattle.table.proofs.Filler.Walk.{walk}
 
 pub fills : (F : Filler) {M : Type 1} (𝓤 : URA M) (H : Heap 𝓤) (𝓜 : Model 𝓤 H) (𝓖 : GhostRules 𝓤 H)
     (𝓡 : Running 𝓤 H 𝓜) (env : Programs) (k : Name)

@@ -41,8 +41,9 @@ use Rattle.table.proofs.Parameters.{stays, none}
 use Rattle.table.proofs.Locals.{localAt, copied}
 use Rattle.table.proofs.Frame.{allocated, releases}
 use Rattle.table.proofs.Upto.{Upto, Nearer, Nearer-wf, bytes-fit, next-fits}
-use Rattle.table.proofs.Filling.Function.{Filler, R, row-type, bytes-type, word, turn, last, filling, parameters, Walker, promised, Read}
-use Rattle.table.proofs.Filling.RecordCall.{bytesVal, Bytes, calls-record}
+use Rattle.table.proofs.Filler.Function.{Filler, R, row-type, bytes-type, word, turn, last, filling}
+use Rattle.table.proofs.Filler.Function.{parameters, Walker, promised, Read}
+use Rattle.table.proofs.Filler.RecordCall.{bytesVal, Bytes, calls-record}
 
 abbrev loc : ℕ → ℕ → ℕ
 loc = localAt 9
@@ -151,8 +152,9 @@ module _ (F : Filler) {M : Type 1} (𝓤 : URA M) (H : Heap 𝓤) (A : Atoms �
         rewrite ! (loc 6 6) (λ (t : Bool). ‵ (fat fullShare tyBool (l 6) 0 (vbool t))) (lt-ltb (i .0) count less) refl $
         stays-in ! (copied ! (loc 6 6) refl) $
         move ! (4 ∷ 5 ∷ []) $
-        calls-record F 𝓤 H A W κ′ q′ s n n-fits (i .0) i-fits ! (fmOf 𝓤 H (W .laws) 𝓣) known (F .asked can (i .0) less) (and-then ! (copied ! (loc 6 2) refl)
-        (and-then ! (copied ! (loc 6 3) refl) (and-then ! (copied ! (loc 6 5) refl) (no-more !)))) (λ w is.
+        calls-record F 𝓤 H A W κ′ q′ s n n-fits (i .0) i-fits ! (fmOf 𝓤 H (W .laws) 𝓣) known
+        (F .asked can (i .0) less) (and-then ! (copied ! (loc 6 2) refl) (and-then ! (copied ! (loc 6 3) refl)
+        (and-then ! (copied ! (loc 6 5) refl) (no-more !)))) (λ w is.
         -- [what the record owns; the token; what the bytes own; the row; the open borrow; obs; auth; _9; …; _0; …]
         land ! (from ! (stop !)) (init ! (loc 7 7) refl (typed is)) $
         assigns ! (bin ! (copied ! (loc 7 5) refl) (lit ! tt) (record { fits = bytes }))
