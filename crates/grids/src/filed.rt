@@ -1,19 +1,19 @@
 // The run file of the paper's three-row grid at T = 1: written, read back, and refused.
-use crate::files::BYTES;
-use crate::files::Held;
-use crate::files::Taken;
-use crate::files::front;
-use crate::files::list_of;
-use crate::files::read;
-use crate::files::read_told;
-use crate::files::write;
-use crate::first::Told;
-use crate::same::same_back;
 use crate::show::show_told;
 use crate::text::say;
 use crate::text::say_count;
 use crate::text::say_named;
 use layout::ReadBack;
+use lent::files::BYTES;
+use lent::files::Held;
+use lent::files::Taken;
+use lent::files::front;
+use lent::files::list_of;
+use lent::files::read;
+use lent::files::read_told;
+use lent::files::write;
+use lent::first::Told;
+use lent::same::same_back;
 use record::Peak;
 
 // Its 15 cells and 3 records are 24 + 60 + 48 bytes.

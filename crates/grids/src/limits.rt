@@ -3,11 +3,11 @@
 //
 // A work area for 1,048,576 cells has no room on a program's stack. That so many are not refused by 3 is asked without
 // one, which gets 4; that they are accepted is asked of the C entry and of the column call by the tests in C++.
-use crate::answers::start_refusal;
-use crate::first;
-use crate::first::Told;
-use crate::first::taken;
 use crate::show::show_refusal;
+use lent::answers::start_refusal;
+use lent::first;
+use lent::first::Told;
+use lent::first::taken;
 use run::Run;
 
 // The most cells of a run, and those with one column of 1,024 rows more.

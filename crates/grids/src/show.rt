@@ -1,14 +1,14 @@
 // A line for each answer: its name, a colon, and the records with a comma between them.
-use crate::answers::Call;
-use crate::answers::answer;
-use crate::first::Told;
-use crate::records::field;
-use crate::text::magnitude;
 use crate::text::say;
 use crate::text::say_count;
 use crate::text::say_field;
 use crate::text::say_named;
 use crate::text::say_number;
+use lent::answers::Call;
+use lent::answers::answer;
+use lent::first::Told;
+use lent::records::field;
+use lent::records::magnitude;
 use second::Records;
 
 // The marks of a missing key height and of a missing pass, as a record holds them.

@@ -1,4 +1,5 @@
 // Words and numbers on standard output.
+use lent::records::magnitude;
 use libc::STDOUT_FILENO;
 
 // Writes the text.
@@ -32,9 +33,4 @@ pub fn say_field(n: i64, missing: i64) {
     } else {
         say_number(n);
     }
-}
-
-// A number without its sign. The bits of a number below zero are turned round first, so that the least one has room.
-pub fn magnitude(n: i64) -> u64 {
-    if n < 0 { (!n) as u64 + 1 } else { n as u64 }
 }

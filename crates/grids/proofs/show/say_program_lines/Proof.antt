@@ -1,6 +1,4 @@
--- `grids::show::say_program_lines` is safe and ends.
--- Nothing has to hold from turn to turn, and the measure is the number of turns that are left.
--- Assumes nothing.
+-- `grids::show::say_program_lines` is safe and ends: the turns that are left become fewer. Assumes nothing.
 use Prim.Native.Nat.{_-_}
 use native.Mathlib.Omega.{arith}
 use Rattle.grids.proofs.show.say_program_lines.Statement.{statement}

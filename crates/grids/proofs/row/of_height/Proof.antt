@@ -1,8 +1,0 @@
--- `grids::row::of_height` is safe: a number of 32 bits widens.
--- Assumes nothing.
-use Rattle.second.proofs.Signed.{widened}
-use Rattle.grids.proofs.row.of_height.Statement.{statement}
-use Rattle.grids.proofs.row.of_height.Tie as tie
-
-pub of-height-spec : {M : Type 1} → statement M
-of-height-spec = tie.close (tie.spec (λ c. widened (c .fits .height)) (λ c. tt))

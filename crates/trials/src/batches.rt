@@ -1,0 +1,50 @@
+// On made-up runs, that the batches of the column calls and of End are together the list of the whole grid.
+use lent::answers::Call;
+use lent::answers::answer;
+use lent::records::append;
+use lent::records::same;
+use second::Records;
+
+// Whether the batches of the column calls and of End, together, are the list.
+pub fn agree(rows: usize, heights: &[i32], threshold: u32) -> bool {
+    let mut whole = [0i64; 256];
+    let mut parts = [0i64; 256];
+    let count = answer(Call::List, rows, heights, threshold, &mut whole);
+    let total = gather(rows, heights, threshold, &mut parts);
+    same(&whole, count, &parts, total)
+}
+
+// Gathers what the column calls and End hand out, in the order of the calls, and answers how many records that is.
+fn gather(rows: usize, heights: &[i32], threshold: u32, parts: &mut Records) -> usize {
+    if rows == 0 {
+        return 0;
+    }
+    let mut end = 0;
+    let mut total = 0;
+    while rows <= heights.len() - end {
+        end += rows;
+        total = add(
+            Call::Column,
+            rows,
+            &heights[0..end],
+            threshold,
+            parts,
+            total,
+        );
+    }
+    add(Call::End, rows, heights, threshold, parts, total)
+}
+
+// Adds what one call hands out behind the first `total` records.
+fn add(
+    call: Call,
+    rows: usize,
+    heights: &[i32],
+    threshold: u32,
+    parts: &mut Records,
+    total: usize,
+) -> usize {
+    let mut batch = [0i64; 256];
+    let count = answer(call, rows, heights, threshold, &mut batch);
+    append(&batch, count, parts, total)
+}

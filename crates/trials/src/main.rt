@@ -1,0 +1,131 @@
+// Tries made-up grids and runs on which the rules fix how two answers are related, or on which both listers must answer
+// alike, and prints on how many they do.
+//
+// The lister is asked through its public calls, each lent a row of records. What differs is printed by its number, from
+// which all of a grid or run is drawn.
+mod backwards; // backwards.rt: the list of a grid that is read backwards
+mod batches; // batches.rt: the batches of a run are the list
+mod both; // both.rt: one call of both listers, accepted or refused
+mod forged; // forged.rt: run records that are refused
+mod growing; // growing.rt: both listers on runs
+mod lists; // lists.rt: both listers on grids
+mod random; // random.rt: made-up grids
+mod refiled; // refiled.rt: run files written and read back
+
+use crate::random::CELLS;
+use libc::STDOUT_FILENO;
+
+// How many made-up grids each relation is tried on.
+const GRIDS: u64 = 300;
+
+// The made-up grids behind these, up to the first of the runs, and the runs up to the last: both listers are compared
+// on them, with the refusals.
+const FIRST_RUN: u64 = 700;
+
+const LAST_RUN: u64 = 850;
+
+// What is tried.
+enum Trial {
+    // The batches of a run are its list.
+    Batches,
+    // A grid without equal heights has the same list backwards.
+    Backwards,
+    // The list is written to a file and read back the same.
+    Refiled,
+    // Both listers answer list calls alike.
+    Lists,
+    // Both listers answer the calls of a run alike.
+    Growing,
+}
+
+fn main() {
+    related();
+    compared();
+}
+
+// Prints on how many made-up grids two answers are related as they must be.
+fn related() {
+    say_of_all(count(Trial::Batches, 0, GRIDS));
+    say(b" runs: batches and list agree\n");
+    say_of_all(count(Trial::Backwards, 0, GRIDS));
+    say(b" grids without equal heights: the list read backwards agrees\n");
+    say_of_all(count(Trial::Refiled, 0, GRIDS));
+    say(b" lists: written to a file and read back the same\n");
+}
+
+// Prints on how many made-up grids and runs both listers agree.
+fn compared() {
+    say_count(count(Trial::Lists, GRIDS, FIRST_RUN));
+    say(b" grids: both listers agree, refusals too, and other entries stay\n");
+    say_count(count(Trial::Growing, FIRST_RUN, LAST_RUN));
+    say(b" runs: both listers agree, refusals too, and other entries stay\n");
+}
+
+// How many of those from `start` on and below `end` are as they must be.
+fn count(trial: Trial, start: u64, end: u64) -> u64 {
+    let mut agreed = 0;
+    for n in start..end {
+        agreed = counted(n, drawn_agrees(trial, n), agreed);
+    }
+    agreed
+}
+
+// Counts one more where the answer is yes, and prints the number where it is no.
+fn counted(n: u64, yes: bool, agreed: u64) -> u64 {
+    if !yes {
+        say(b"differs: number ");
+        say_count(n);
+        say(b"\n");
+        return agreed;
+    }
+    if agreed < u64::MAX {
+        agreed + 1
+    } else {
+        agreed
+    }
+}
+
+// Whether the grid or run of that number is as it must be.
+fn drawn_agrees(trial: Trial, n: u64) -> bool {
+    let mut heights = [0i32; CELLS];
+    draw(trial, n, &mut heights);
+    let rows = random::rows_of(n);
+    let grid = random::first(&heights, random::cells_of(n));
+    let column = random::first(&heights, rows);
+    agrees(trial, rows, grid, random::threshold_of(n), column)
+}
+
+fn draw(trial: Trial, n: u64, heights: &mut [i32; CELLS]) {
+    match trial {
+        Trial::Backwards => random::fill_apart(n, heights),
+        _ => random::fill(n, heights),
+    }
+}
+
+// Whether a grid is as it must be; the column is there to be offered beyond it.
+fn agrees(trial: Trial, rows: usize, heights: &[i32], threshold: u32, column: &[i32]) -> bool {
+    match trial {
+        Trial::Batches => batches::agree(rows, heights, threshold),
+        Trial::Backwards => backwards::agrees(rows, heights, threshold),
+        Trial::Refiled => refiled::agrees(rows, heights, threshold),
+        Trial::Lists => lists::agree(rows, heights, threshold),
+        Trial::Growing => growing::agrees(rows, heights, threshold, column),
+    }
+}
+
+// ---- words and numbers on standard output
+
+fn say(text: &[u8]) {
+    io::write_all(STDOUT_FILENO, text);
+}
+
+fn say_count(n: u64) {
+    io::print_decimal(STDOUT_FILENO, n);
+}
+
+// Writes how many of all agree.
+fn say_of_all(agreed: u64) {
+    say_count(agreed);
+    say(b" of ");
+    say_count(GRIDS);
+}
