@@ -9,6 +9,7 @@ use lent::answers::answer;
 use lent::first::Told;
 use lent::records::field;
 use lent::records::magnitude;
+use second::MAX;
 use second::Records;
 
 // The marks of a missing key height and of a missing pass, as a record holds them.
@@ -100,13 +101,17 @@ fn say_column(rows: usize, cells: usize) {
     say_count((cells / rows) as u64);
 }
 
-// Writes the records and ends the line; `none` stands for no record.
+// Writes the records and ends the line; `none` stands for no record. Where the listers differ there is no list.
 fn say_records(records: &Records, count: usize, none: &[u8]) {
     say(b": ");
     if count == 0 {
         say(none);
     }
-    say_each(records, count);
+    if count > MAX {
+        say(b"the listers differ");
+    } else {
+        say_each(records, count);
+    }
     say(b"\n");
 }
 
