@@ -5,10 +5,10 @@
 .PHONY: test run bench layout pages tools peaks
 
 test:
-	@echo "test: layout, pages, tools, C++ tests, the program's files, then all proofs; some 18 minutes" >&2
+	@echo "test: layout, pages, tools, C++ tests, the program's files, then all proofs; some 17 minutes" >&2
 	@$(MAKE) --no-print-directory cpp-tools
 	@$(MAKE) --no-print-directory -j3 -Oline layout pages tools cpp-test peaks
-	@echo "test: proving every crate from nothing and trying every must-fail edit; some 14 minutes" >&2
+	@echo "test: proving every crate from nothing and trying every must-fail edit; some 13 minutes" >&2
 	@RT_JOBS=$${RT_JOBS:-4} python3 tests/edits/gate.py
 
 # Of jobs that run beside each other, one at a time may prove: rt writes to target/.

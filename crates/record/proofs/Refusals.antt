@@ -12,7 +12,7 @@ use Prim.Native.Nat.{ℕ, _≤_, _<_}
 use native.Mathlib.Omega.{arith}
 use lib.Dec.{eqb, ltb}
 use lib.ListN.{getD}
-use borrow.Author.Tests.{eq-eqb, ne-eqb, lt-ltb, le-ltb, eqb-false, ltb-false}
+use borrow.Author.Tests.{eq-eqb, ne-eqb, le-ltb, eqb-false, ltb-false}
 use Rattle.relief.proofs.Tests.{or-false}
 use Rattle.record.specs.declared.Refusal.{Refusal}
 use Rattle.record.specs.declared.Refusal.the-variants.{Rows, Length, Cells, Work, Table, Ended}
@@ -79,9 +79,6 @@ handed-differ (Refused r) (Refused q) e = ap Refused (refusals-differ r q e)
 
 pub rows-none : {rows : ℕ} → rows ≡ 0 → badRows rows ≡ true
 rows-none {rows} e = simp (eq-eqb rows 0 e)
-
-pub rows-many : {rows : ℕ} → 1024 < rows → badRows rows ≡ true
-rows-many {rows} l = simp (ne-eqb rows 0 (omega arith), lt-ltb 1024 rows l)
 
 pub rows-right : {rows : ℕ} → (rows ≡ 0 → ⊥) → rows ≤ 1024 → badRows rows ≡ false
 rows-right {rows} d l = simp (ne-eqb rows 0 d, le-ltb 1024 rows l)
