@@ -1,7 +1,7 @@
 // The run file in bytes: header, heights and records, and the answers of writing and reading, for all that needs no row
 // of records.
 pub mod handed; // handed.rt: what the calls for C share
-mod numbers; // numbers.rt: the two's complement of a height, the cells of a grid, a number in four bytes
+mod numbers; // numbers.rt: the two's complement of a height, a number in four bytes
 pub mod reader; // reader.rt: reading all but the records
 pub mod records; // records.rt: records in bytes
 pub mod soundness; // soundness.rt: which records of a file are sound
@@ -10,7 +10,6 @@ pub mod writer; // writer.rt: writing all but the records
 // What other crates call.
 pub use handed::hand_out;
 pub use handed::refused_number;
-pub use numbers::grid_cells;
 pub use numbers::signed;
 pub use reader::cells_to_take;
 pub use reader::records_to_take;

@@ -1,4 +1,4 @@
-// Numbers as the file has them: the two's complement of a height, the cells of a grid, a number in its four bytes.
+// Numbers as the file has them: the two's complement of a height, a number in its four bytes.
 ghost use mathlib.Core.Path.{_≡_};
 ghost use Prim.Native.Nat.{_+_, _*_, _≤_};
 ghost use lib.ListN.{length};
@@ -18,13 +18,6 @@ pub fn signed(bits: u32) -> i32
     ensures { λ r. ⌜ r ≡ signedOf bits ⌝ }
 {
     record::height(std::num::wrapping_add_u32(bits, HALF))
-}
-
-// The cells of a grid. The product of two 32-bit numbers is made in 64 bits.
-pub fn grid_cells(rows: u32, columns: u32) -> usize
-    ensures { λ r. ⌜ r ≡ rows * columns ⌝ }
-{
-    words::index(rows) * words::index(columns)
 }
 
 // Puts a number at the i-th place of four bytes.

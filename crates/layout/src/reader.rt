@@ -8,7 +8,6 @@ ghost use Rattle.layout.specs.Layout.{heightsIn};
 ghost use Rattle.layout.specs.Promises.{miscounted, ReadAnswers};
 ghost use Rattle.layout.specs.Inner.{fileGridTests, headerTests, GridTaken, cellsToTake, recordsToTake};
 use crate::ReadBack;
-use crate::numbers::grid_cells;
 use crate::numbers::signed;
 use crate::soundness::first_unsound_in;
 use record::Cell;
@@ -41,7 +40,7 @@ fn check_file_grid(file: &[u8]) -> Checked
         return Checked::Bad(Refusal::FileLength);
     }
     let rows = words::get(file, 0);
-    let cells = grid_cells(rows, words::get(file, 1));
+    let cells = words::times(rows, words::get(file, 1));
     let checked = record::then_test(Checked::Good, record::bad_rows(rows), Refusal::Rows);
     record::then_test(checked, Cell::MAX_CELLS < cells, Refusal::Cells)
 }
@@ -54,7 +53,7 @@ fn check_header(file: &[u8]) -> Checked
     if let Checked::Bad(_) = checked {
         return checked;
     }
-    let cells = grid_cells(words::get(file, 0), words::get(file, 1));
+    let cells = words::times(words::get(file, 0), words::get(file, 1));
     let wrong = is_miscounted(file, cells, words::index(words::get(file, 2)));
     let total = words::index(words::get(file, 5));
     let checked = record::then_test(checked, wrong, Refusal::FileCounts);
@@ -72,7 +71,7 @@ fn judge(file: &[u8], heights: usize, table: usize) -> ReadBack
     let rows = words::get(file, 0);
     let columns = words::get(file, 1);
     let peaks = words::get(file, 2);
-    let cells = grid_cells(rows, columns);
+    let cells = words::times(rows, columns);
     let n = words::index(peaks);
     let unsound = first_unsound_in(file, cells, n);
     let index = words::narrow(unsound);
@@ -111,7 +110,7 @@ pub fn cells_to_take(answer: ReadBack) -> usize
             rows,
             columns,
             peaks: _,
-        } => grid_cells(rows, columns),
+        } => words::times(rows, columns),
         ReadBack::Refused(_) => 0,
     }
 }

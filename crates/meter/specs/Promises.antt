@@ -4,7 +4,6 @@
 --     countTold a               what `meter_read` tells: the record count alone
 --     MeterColumns, MeterWrites, MeterReads    the promises of the three calls
 -- Assumes nothing.
-use mathlib.Core.Bool.{false}
 use mathlib.Core.List.{List, [], _∷_, _++_}
 use mathlib.Core.Path.{_≡_}
 use Prim.Native.Nat.{ℕ, _+_, _/_}

@@ -41,11 +41,11 @@ fn read_number(back: ReadBack) -> i64
 
 // ---- a column
 
-// The cells of so many columns and one more. The product of two 32-bit numbers is made in 64 bits.
+// The cells of so many columns and one more.
 fn cells_with(rows: u32, columns: u32) -> usize
     ensures { λ r. ⌜ r ≡ columns * rows + rows ⌝ }
 {
-    words::index(columns) * words::index(rows) + words::index(rows)
+    words::times(columns, rows) + words::index(rows)
 }
 
 // Offers one column to a run that has not ended: `run::column`. The answer is the record count, or minus the refusal

@@ -99,7 +99,7 @@ fn is_large(file: &[u8]) -> bool {
     if record::bad_rows(rows) {
         return false;
     }
-    MOST_CELLS < layout::grid_cells(rows, words::get(file, 1))
+    MOST_CELLS < words::times(rows, words::get(file, 1))
 }
 
 // Reads a run file and writes the list of its heights. The stored records are read for soundness only.
@@ -111,7 +111,7 @@ fn list_file(file: &[u8]) {
             columns,
             peaks: _,
         } => {
-            let cells = layout::grid_cells(rows, columns);
+            let cells = words::times(rows, columns);
             if cells <= MOST_CELLS {
                 say_list(rows, columns, &heights[0..cells]);
             }

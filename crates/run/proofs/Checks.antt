@@ -1,7 +1,7 @@
 -- The tests of the calls: made one after the other they are those of the paper, and what is known where none applies.
 --     run-made, column-made, end-made    what the tests answer, in the code's own numbers
 --     column-passed, end-passed          what is known where none applies
---     product-fits, sum-fits             the cells of a record, with a column more, stay in 64 bits
+--     sum-fits                           the cells of a record, with a column more, stay in 64 bits
 -- Assumes nothing.
 use mathlib.Core.Path.{_≡_, refl, _∙_, ap, ap₂}
 use mathlib.Core.Bool.{Bool, not}
@@ -23,12 +23,6 @@ use Rattle.run.specs.Promises.{heldOf, badRecord, runTests, columnTests,
 use Rattle.run.specs.Inner.{GoodColumn, GoodEnd}
 
 -- ---- numbers of 64 bits
-
-pub product-fits : {r k rows columns : ℕ} → k ≡ columns → r ≡ rows → columns < 4294967296 → rows < 4294967296
-    → k * r < 18446744073709551616
-product-fits {r} {k} {rows} {columns} ek er l m =
-    let h : k * r ≤ 4294967295 * r = mul-le-mul-right r (omega arith) in
-    omega arith
 
 pub sum-fits : {h r : ℕ} (run : Run) → h ≡ heldOf run → r ≡ run .rows → run .columns < 4294967296
     → run .rows < 4294967296 → h + r < 18446744073709551616

@@ -19,11 +19,11 @@ impl Run {
     }
 }
 
-// The cells of a run that its grid holds. Two numbers of 32 bits have a product of 64.
+// The cells of a run that its grid holds.
 pub fn held_cells(run: Run) -> usize
     ensures { λ r. ⌜ r ≡ heldOf run ⌝ }
 {
-    words::index(run.columns) * words::index(run.rows)
+    words::times(run.columns, run.rows)
 }
 
 // The record with one column more.

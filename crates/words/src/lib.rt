@@ -38,6 +38,13 @@ pub fn index(v: u32) -> usize
     v as usize
 }
 
+// The product of two numbers. 64 bits hold it, and one number more.
+pub fn times(a: u32, b: u32) -> usize
+    ensures { λ r. ⌜ (r ≡ a * b) × (r ≤ 18446744065119617025) ⌝ }
+{
+    index(a) * index(b)
+}
+
 // A number of 32 bits that was an index or a length.
 pub fn narrow(v: usize) -> u32
     requires { ⌜ v < 4294967296 ⌝ }

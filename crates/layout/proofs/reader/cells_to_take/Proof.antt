@@ -6,7 +6,7 @@ use Rattle.layout.proofs.reader.cells_to_take.Statement.{statement}
 use Rattle.layout.proofs.reader.cells_to_take.Tie as tie
 
 returns : tie.Need-returns
-returns c = c .grid-cells .ensures ∙ ap cellsToTake (sym (c .before .before .answer .given .1))
+returns c = c .times .ensures .0 ∙ ap cellsToTake (sym (c .before .before .answer .given .1))
 
 pub cells-to-take-spec : {M : Type 1} → statement M
 cells-to-take-spec =

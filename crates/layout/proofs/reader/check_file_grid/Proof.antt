@@ -23,7 +23,7 @@ returns-2 c =
     let f = now (at-rows .before .before .before .args .file) in
     grid-made f (le-ltb (length f) 24 (at-rows .before .if1 .left))
     (c .before .before .bad-rows .ensures ∙ ap badRows (at-rows .get .ensures))
-    (at-cells .grid-cells .ensures ∙ ap₂ _*_ (at-rows .get .ensures) (at-cells .before .get2 .ensures))
+    (at-cells .times .ensures .0 ∙ ap₂ _*_ (at-rows .get .ensures) (at-cells .before .get2 .ensures))
     (c .before .then-test .ensures) (c .then-test2 .ensures)
 
 pub check-file-grid-spec : {M : Type 1} → statement M

@@ -19,8 +19,8 @@ file c = now (c .before .before .before .before .args .file)
 known : (c : tie.After-enum-told2) → (24 ≤ length (file c)) × (cellsIn (file c) ≤ 1048576)
 known c = grid-known (file c) (sym (c .before .before .check-file-grid .ensures) ∙ c .enum-told2 .given .1)
 
-cells-is : (c : tie.After-grid-cells) → c .grid-cells .result ≡ cellsIn (file (c .before .before .before))
-cells-is c = c .grid-cells .ensures ∙ ap₂ _*_ (c .before .before .get .ensures) (c .before .get2 .ensures)
+cells-is : (c : tie.After-times) → c .times .result ≡ cellsIn (file (c .before .before .before))
+cells-is c = c .times .ensures .0 ∙ ap₂ _*_ (c .before .before .get .ensures) (c .before .get2 .ensures)
 
 returns : tie.Need-returns
 returns c =

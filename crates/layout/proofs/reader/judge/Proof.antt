@@ -31,10 +31,10 @@ whole c = header-whole (file c) (sym (c .before .before .check-header .ensures) 
 abbrev at-good : tie.After-index → tie.After-enum-told
 at-good c = c .before .before .before .before .before
 
-cells-is : (c : tie.After-index) → c .before .grid-cells .result ≡ cellsIn (file (at-good c))
+cells-is : (c : tie.After-index) → c .before .times .result ≡ cellsIn (file (at-good c))
 cells-is c =
     let at-columns = c .before .before .before in
-    c .before .grid-cells .ensures ∙ ap₂ _*_ (at-columns .before .get .ensures) (at-columns .get2 .ensures)
+    c .before .times .ensures .0 ∙ ap₂ _*_ (at-columns .before .get .ensures) (at-columns .get2 .ensures)
 
 peaks-is : (c : tie.After-index) → c .index .result ≡ peaksIn (file (at-good c))
 peaks-is c = c .index .ensures ∙ c .before .before .get3 .ensures
