@@ -5,6 +5,7 @@
 --     KeptMut, KeptShr        what the function keeps meanwhile: the way back, and the entries that are not lent
 --     lends-mut, back-mut     the entries are lent as `&mut`, and are back at any list as long
 --     lends-shr, back-shr     the same as `&`
+--     After, Returned, gives-back    what is left of a `&`, a `&mut` and the row, and of the call's answer
 --     calls-lent              the call as one step of a walk: before it and after it the local holds an array
 -- After `Denote/Examples/Slices/FirstCaller` of the kit's logic. Assumes `Given`.
 use mathlib.Core.Path.{_≡_, refl, sym, _∙_, subst}
@@ -15,8 +16,7 @@ use lib.ListN.{length, take, drop as drop-list, take-append-drop}
 use lib.Dec.{T as Holds}
 use mir.Syntax.{tyArray}
 use base.Logic.{guard}
-use types.Kit.{fpick}
-use types.Kit.{check}
+use types.Kit.{check, fpick}
 use types.SemTy.{cells, Arr}
 use types.Tokens.{lent-back}
 use denote.Laws.{Tells, Makes}
@@ -36,11 +36,11 @@ use Rattle.table.proofs.Logic.{⋆, raw, fsplit, some, runs, pick, Seq, later, 
 use Rattle.table.proofs.Logic.{rewrite, group, use2, mean, use3, updating, at-once, learn, fpack, feqI, given, Opds}
 use Rattle.table.proofs.Logic.{arr-parts, lft-new, lft-end, FmC, row as elements, Is, shows, Held, shares, RattleType}
 use Rattle.table.proofs.Logic.{RefT, sliceVal, ShrSlice, MutSlice, Room, finally, owned, facts, calls-at, Triple}
-use Rattle.table.proofs.Logic.{Contract}
+use Rattle.table.proofs.Logic.{Contract, Share, Lft, SProp, keep}
 use Rattle.record.specs.declared.Peak.{Peak}
 use Rattle.record.proofs.Peak as T
 use Rattle.record.proofs.Peak.Laws as T′
-use Rattle.table.proofs.Parameters.{Parameter, plainly}
+use Rattle.table.proofs.Parameters.{Parameter, Spent, plainly}
 
 abbrev pub R : RattleType
 R = T.the-row
@@ -202,6 +202,32 @@ module _ (b k : ℕ) (xs : List Peak) where
         move ! (2 ∷ []) $ drop ! $ move ! (1 ∷ []) $ fsplit ! $ move ! (2 ∷ 0 ∷ []) $ lent-back ! tt $
         fsplit ! $ drop ! $ use1 W (‵ (cells (mem R) (take k xs) b 0)) (whole-in 𝓤 H A W R (take k xs) b 0) $
         at-once ! $ by ! (row-joined (take k xs) refl whole)
+
+-- ---- what a call leaves that was lent a `&`, a `&mut` and the row, of which the row is the last
+
+module _ {M : Type 1} (𝓤 : URA M) (H : Heap 𝓤) (A : Atoms 𝓤) (W : Given 𝓤 H A) (κ₀ κ₁ : Lft) (q₀ q₁ : Share)
+    (L : RattleType) (w : RefT (List (L .Denot))) (Q : RattleType) where
+  abbrev pub After : Item 𝓤
+  After = ‵ (flft κ₀ q₀) ⊛ ‵ (flft κ₁ q₁) ⊛ Spent L w
+
+  abbrev pub Returned : ℕ → GName → Val → Q .Denot → Item 𝓤
+  Returned ν δ u r =
+      ‵ (flft (ν ∷ []) fullShare) ⊛ ‵ (fex (List Peak) (finally R δ)) ⊛ ‵ (Q .own r (u ∷ [])) ⊛ After
+
+  -- `Last x` is what the contract says of the last lists x, and `Said` what else it says, which is not used
+  pub gives-back : (ν : ℕ) (δ : GName) (u : Val) {X : Type 0} (Last : X → Fml) (Said : Q .Denot → X → SProp 𝓤)
+      → ((x : X) → ent 𝓤 (sem 𝓤 H A (Last x)) (mean 𝓤 H A (Spent L w ⊛ ‵ (fex (List Peak) (finally R δ)))))
+      → ent 𝓤 (mean 𝓤 H A (later (some (λ (r : Q .Denot). ((‵ (flft κ₀ q₀) ⊛ ‵ (flft κ₁ q₁)
+      ⊛ ‵ (flft (ν ∷ []) fullShare) ⊛ ‵ ftrue) ⊛ ‵ (Q .own r (u ∷ [])))
+      ⊛ some (λ (x : X). ‵ (Last x) ⊛ raw (Said r x))))))
+      (mean 𝓤 H A (later (some (Returned ν δ u))))
+  gives-back ν δ u {X} Last Said parts =
+      qed W (later (some (λ (r : Q .Denot). ((‵ (flft κ₀ q₀) ⊛ ‵ (flft κ₁ q₁) ⊛ ‵ (flft (ν ∷ []) fullShare) ⊛ ‵ ftrue)
+      ⊛ ‵ (Q .own r (u ∷ []))) ⊛ some (λ (x : X). ‵ (Last x) ⊛ raw (Said r x)))) ∷ []) ∵
+      updating ! $ await ! tt $ pick ! (λ r. split ! $ move ! (1 ∷ []) $ pick ! (λ x. split ! $ move ! (1 ∷ []) $
+      drop ! $ use1 W (Spent L w ⊛ ‵ (fex (List Peak) (finally R δ))) (parts x) $ split ! $ move ! (2 ∷ []) $
+      split ! $ split ! $ move ! (1 ∷ []) $ split ! $ move ! (1 ∷ []) $ split ! $ at-once ! $
+      show ! (λ (r′ : Q .Denot). mean 𝓤 H A (Returned ν δ u r′)) r $ keep ! (0 ∷ 6 ∷ 4 ∷ 3 ∷ 2 ∷ 5 ∷ []) $ done !))
 
 -- ---- the call
 

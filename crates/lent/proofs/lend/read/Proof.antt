@@ -10,18 +10,18 @@ use denote.Struct.Laws as LL
 use Rattle.table.proofs.Logic.{fullShare, URA, named, w64, Val, vint, vstruct, vcons, vnil, flft, Fml, Share, Lft}
 use Rattle.table.proofs.Logic.{ftrue, GName, fex, ent, SProp, Memory, Routine, Heap, Calls, Loops, WpFn, Atoms, Lfts}
 use Rattle.table.proofs.Logic.{Fun, givenOf, Given, _$_, ‵, _∵_, !, qed, move, fjoin, frame, done, _⊛_, Item, split}
-use Rattle.table.proofs.Logic.{join, drop, ⋆, raw, fsplit, some, keep, pick, later, await, show, by, feqL, suffices}
-use Rattle.table.proofs.Logic.{group, mean, updating, at-once, learn, fpack, whole, sub, look-in, agg, look, stop, from}
-use Rattle.table.proofs.Logic.{load, init, hop, fld, of-opd, and-then, no-more, assigns, land, returns, enter, params1}
-use Rattle.table.proofs.Logic.{pass1, pass0, free0, addr, FmC, u8, usize, i32, Is, owns, RefT, plain, sliceVal}
-use Rattle.table.proofs.Logic.{ShrSlice, MutSlice, Room, finally, nothing, owned, lasts, Lasts, atExit, onEntry}
-use Rattle.table.proofs.Logic.{tripleOf, Triple, Stays, walkOf, ends-at, needs, tablesOf}
+use Rattle.table.proofs.Logic.{join, drop, ⋆, fsplit, some, keep, pick, later, by, feqL, suffices, group, mean, learn}
+use Rattle.table.proofs.Logic.{fpack, whole, sub, look-in, agg, look, stop, from, load, init, hop, fld, of-opd}
+use Rattle.table.proofs.Logic.{and-then, no-more, assigns, land, returns, enter, params1, pass1, pass0, free0, addr}
+use Rattle.table.proofs.Logic.{FmC, u8, usize, i32, Is, owns, RefT, plain, sliceVal, ShrSlice, MutSlice, Room, finally}
+use Rattle.table.proofs.Logic.{nothing, owned, lasts, atExit, onEntry, tripleOf, Triple, Stays, walkOf, ends-at, needs}
+use Rattle.table.proofs.Logic.{tablesOf}
 use Rattle.record.specs.declared.Peak.{Peak}
 use Rattle.layout.specs.declared.ReadBack.{ReadBack}
 use Rattle.layout.proofs.ReadBack as S
 use Rattle.layout.proofs.ReadBack.Laws as S′
 use Rattle.table.proofs.Walks.{Promise, closes, knows}
-use Rattle.table.proofs.Parameters.{Parameter, Spent, mutable, none, number, shared, spends, stays}
+use Rattle.table.proofs.Parameters.{Parameter, mutable, none, number, shared, spends, stays}
 use Rattle.table.proofs.Locals.{localAt, copied}
 use Rattle.table.proofs.Frame.{allocated, releases}
 use Rattle.runfile.proofs.read as called
@@ -32,7 +32,8 @@ use Rattle.lent.specs.declared.lend.Back.{Back}
 use Rattle.lent.proofs.lend.Back as L
 use Rattle.lent.proofs.lend.Back.Laws as L′
 use Rattle.lent.proofs.LentRow.{R, Entries, row, row-typed, row-field}
-use Rattle.lent.proofs.LentRow.{rowAt, RowMut, KeptMut, lends-mut, back-mut, calls-lent}
+use Rattle.lent.proofs.LentRow.{rowAt, RowMut, KeptMut, lends-mut, back-mut, After, Returned, gives-back}
+use Rattle.lent.proofs.LentRow.{calls-lent}
 use Rattle.lent.proofs.lend.read.Key.{name as #lend·read}
 use Rattle.lent.proofs.lend.read as lend
 use Rattle.lent.proofs.lend.read.Statement as stated
@@ -91,12 +92,9 @@ module _ {M : Type 1} (𝓤 : URA M) (H : Heap 𝓤) (A : Atoms 𝓤) (W : Given
   abbrev Hts : Fml
   Hts = MutSlice (named 1) κ₁ i32 .own h (hv ∷ [])
 
-  -- what the call is lent beside the row, and what of it comes back
+  -- what the call is lent beside the row, and what of it comes back (`After`)
   abbrev Before : Item 𝓤
   Before = ‵ (flft κ₀ q₀) ⊛ ‵ (flft κ₁ q₁) ⊛ ‵ File ⊛ ‵ Hts
-
-  abbrev After : Item 𝓤
-  After = ‵ (flft κ₀ q₀) ⊛ ‵ (flft κ₁ q₁) ⊛ Spent i32 h
 
   -- ---- the call: the row begins at the block b, and is lent for ν under δ
   module _ (b : ℕ) where
@@ -118,10 +116,6 @@ module _ {M : Type 1} (𝓤 : URA M) (H : Heap 𝓤) (A : Atoms 𝓤) (W : Given
       tt,
     )
 
-    abbrev Returned : ℕ → GName → Val → ReadBack → Item 𝓤
-    Returned ν δ u r =
-        ‵ (flft (ν ∷ []) fullShare) ⊛ ‵ (fex (List Peak) (finally R δ)) ⊛ ‵ (S.the-row .own r (u ∷ [])) ⊛ After
-
     goes : (ν : ℕ) (δ : GName)
         → ent 𝓤 (⋆ 𝓤 H A (‵ (flft (ν ∷ []) fullShare) ∷ ‵ (RowMut b room xs (named 2) ν δ) ∷ Before ∷ []))
         (Called 𝓤 H A mem run .pre (to-call ν δ))
@@ -132,24 +126,24 @@ module _ {M : Type 1} (𝓤 : URA M) (H : Heap 𝓤) (A : Atoms 𝓤) (W : Given
         fjoin ! $ move ! (3 ∷ []) $ fjoin ! $ move ! (2 ∷ []) $ fjoin ! $ move ! (1 ∷ []) $ join ! $ frame ! $ done !
 
     gives : (ν : ℕ) (δ : GName) (u : Val) → ent 𝓤 (Called 𝓤 H A mem run .post (to-call ν δ) u)
-        (mean 𝓤 H A (later (some (Returned ν δ u))))
+        (mean 𝓤 H A (later (some (Returned 𝓤 H A W κ₀ κ₁ q₀ q₁ i32 h S.the-row ν δ u))))
     gives ν δ u =
-        qed W (later (some (λ (r : ReadBack). ((‵ (flft κ₀ q₀) ⊛ ‵ (flft κ₁ q₁) ⊛ ‵ (flft (ν ∷ []) fullShare) ⊛ ‵ ftrue)
-        ⊛ ‵ (S.the-row .own r (u ∷ []))) ⊛ some (λ (ws : Lasts called.ended (lfts ν) (args δ)).
-        ‵ (lasts called.ended (lfts ν) (args δ) ws) ⊛ raw (called.clauses 𝓤 H A mem run (lfts ν) (args δ) .ensures tt r
-        (atExit called.ended (lfts ν) (args δ) ws))))) ∷ []) ∵
-        updating ! $ await ! tt $ pick ! (λ r. split ! $ move ! (1 ∷ []) $ pick ! (λ ws. split ! $ move ! (1 ∷ []) $
-        drop ! $ fsplit ! $ drop ! $ fsplit ! $ fsplit ! $ move ! (1 ∷ []) $
-        feqL ! (λ l₁. spends ! i32 h (ws .1 .0) l₁ $ move ! (1 ∷ []) $ fsplit ! $ fsplit ! $ move ! (1 ∷ []) $ drop ! $
-        fpack ! (List Peak) (finally R δ) (ws .1 .1 .0) $ move ! (1 ∷ []) $ drop ! $ move ! (2 ∷ []) $ split ! $
-        split ! $ move ! (1 ∷ []) $ split ! $ move ! (1 ∷ []) $ split ! $ at-once ! $
-        show ! (λ (r′ : ReadBack). mean 𝓤 H A (Returned ν δ u r′)) r $ keep ! (0 ∷ 5 ∷ 4 ∷ 3 ∷ 2 ∷ 6 ∷ []) $ done !)))
+        gives-back 𝓤 H A W κ₀ κ₁ q₀ q₁ i32 h S.the-row ν δ u (lasts called.ended (lfts ν) (args δ))
+        (λ r ws. called.clauses 𝓤 H A mem run (lfts ν) (args δ) .ensures tt r
+        (atExit called.ended (lfts ν) (args δ) ws))
+        (λ ws. qed W (‵ (lasts called.ended (lfts ν) (args δ) ws) ∷ []) ∵
+        fsplit ! $ drop ! $ fsplit ! $ fsplit ! $ move ! (1 ∷ []) $
+        feqL ! (λ l₁. spends ! i32 h (ws .1 .0) l₁ $ move ! (1 ∷ []) $ fsplit ! $ fsplit ! $ move ! (1 ∷ []) $
+        drop ! $ fpack ! (List Peak) (finally R δ) (ws .1 .1 .0) $ keep ! (2 ∷ 0 ∷ []) $ done !))
 
   -- ---- the end
+  abbrev left : Item 𝓤
+  left = After 𝓤 H A W κ₀ κ₁ q₀ q₁ i32 h S.the-row
+
   exits : (r : ReadBack) (u : Val) → Is S.the-row r (u ∷ []) → (ys : List Peak) (z : Val) → Is Entries ys (z ∷ [])
-      → ent 𝓤 (⋆ 𝓤 H A (After ∷ [])) (Post (vstruct (vcons u (vcons z vnil))))
+      → ent 𝓤 (⋆ 𝓤 H A (left ∷ [])) (Post (vstruct (vcons u (vcons z vnil))))
   exits r u is ys z ys-is =
-      qed W (After ∷ []) ∵
+      qed W (left ∷ []) ∵
       split ! $ move ! (1 ∷ []) $ split ! $ move ! (1 ∷ []) $ pick ! (λ z₁. learn ! (λ l₁.
       suffices ! _ (ends-at 𝓤 H A lend.ended stayed (lend.clauses 𝓤 H A mem run) W bound _
       (returned r ys) (tt, (z₁, (tt, (tt, tt)))) (tt, (l₁, (tt, (tt, tt))))) $
@@ -190,7 +184,7 @@ module _ {M : Type 1} (𝓤 : URA M) (H : Heap 𝓤) (A : Atoms 𝓤) (W : Given
         move ! (1 ∷ 0 ∷ 3 ∷ []) $ group ! 4 $
         -- [what is lent; _11; …; _0; …]: the array comes to the front, and behind it what frees it
         move ! (hi 1 5 ∷ 0 ∷ hi 2 5 ∷ []) $
-        calls-lent ! fm (Called 𝓤 H A mem run) known (to-call (l 5)) Before After
+        calls-lent ! fm (Called 𝓤 H A mem run) known (to-call (l 5)) Before left
         S.the-row (l 5) v (RowMut (l 5) room xs (named 2)) (KeptMut (l 5) room xs) (λ δ. fex (List Peak) (finally R δ))
         (lends-mut (l 5) room xs 𝓤 H A W (named 2) v xs-is few) (back-mut (l 5) room xs 𝓤 H A W (xs-is .1 .0 .1))
         (goes (l 5)) (gives (l 5)) (λ ν δ. and-then ! (copied ! (lo 3 1) refl) (and-then ! (copied ! (hi 3 8) refl)
