@@ -45,7 +45,7 @@ takenOf run = run .columns * run .rows
 abbrev pub heldOf : Run → ℕ
 heldOf run = takenOf run
 
--- A run record holds "rows, columns taken, threshold and whether the run has ended".
+-- "rows, columns taken, threshold and whether the run has ended": of a run that has not.
 abbrev pub growingRun : ℕ → ℕ → ℕ → Run
 growingRun rows columns T = record { rows = rows; columns = columns; threshold = T; ended = false }
 
