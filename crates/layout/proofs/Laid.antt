@@ -17,8 +17,10 @@ use Rattle.record.specs.declared.Peak.{Peak}
 use Rattle.record.specs.Records.{withoutKey}
 use Rattle.sound.specs.Sound.{ithOf}
 use Rattle.layout.specs.Layout.{bytesOf, fieldsOf, allFieldsOf, totalOf}
-use Rattle.layout.specs.Inner.{over, Puttable, laid}
-use Rattle.layout.proofs.Over.{over-nil, over-front, over-length, over-over}
+use Rattle.words.specs.Words.{over}
+use Rattle.layout.specs.Inner.{Puttable, laid}
+use Rattle.words.proofs.Over.{over-front, over-length, over-over}
+use Rattle.layout.proofs.Over.{over-nil}
 use Rattle.layout.proofs.Rows.{four-length, four-append, record-four, bytes-length, bytes-append}
 use Rattle.table.proofs.Grows.{Grows, grows-length}
 

@@ -14,10 +14,11 @@ use Rattle.layout.specs.declared.Written.{Written}
 use Rattle.layout.specs.declared.Written.the-variants.{Bytes, Refused}
 use Rattle.layout.specs.Layout.{bitsOf, bytesOf, totalOf, headerOf, allFieldsOf, numbersOf, fileOf}
 use Rattle.layout.specs.Promises.{roomAfter}
-use Rattle.layout.specs.Inner.{over, GridPut, Puttable, laid, putOf}
+use Rattle.words.specs.Words.{over}
+use Rattle.layout.specs.Inner.{GridPut, Puttable, laid, putOf}
 use Rattle.layout.proofs.Files.{file-length}
 use Rattle.layout.proofs.Laid.{laid-start}
-use Rattle.layout.proofs.Over.{over-front, over-over}
+use Rattle.words.proofs.Over.{over-front, over-over}
 use Rattle.layout.proofs.Rows.{bytes-length, bytes-append}
 use Rattle.layout.proofs.WriteAnswer.{written-writable}
 

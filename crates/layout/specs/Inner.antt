@@ -1,5 +1,4 @@
 -- What the functions below the two calls ask and promise.
---     over s at bs                             s with the bytes bs from the place at on
 --     gridTests, fileGridTests, headerTests    the tests before any record is looked at
 --     Few cells n unsound                      what is known of the index of the first unsound record
 --     GridPut rows heights n unsound s s′ a    a is the answer, and s′ the room s with header and heights in it
@@ -15,6 +14,7 @@ use mathlib.Core.Path.{_≡_}
 use Prim.Native.Nat.{ℕ, _+_, _*_, _≤_, _<_}
 use lib.IntN.{ℤ}
 use lib.ListN.{length, take, drop}
+use Rattle.words.specs.Words.{over}
 use Rattle.record.specs.declared.Peak.{Peak}
 use Rattle.record.specs.declared.Handed.{Handed}
 use Rattle.record.specs.declared.Handed.the-variants as handed
@@ -39,10 +39,6 @@ fileGridTests f = take 3 (readTests f 0 0 0)
 
 abbrev pub headerTests : List ℕ → List (Bool × Refusal)
 headerTests f = take 5 (readTests f 0 0 0)
-
--- What stands before and behind stays.
-unfoldable pub over : List ℕ → ℕ → List ℕ → List ℕ
-over s at bs = take at s ++ (bs ++ drop (at + length bs) s)
 
 -- Sound records have cells that rise, so there are no more of them than cells.
 pub record Few (cells n unsound : ℕ) : Type 0 where

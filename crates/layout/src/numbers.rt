@@ -3,7 +3,7 @@ ghost use mathlib.Core.Path.{_≡_};
 ghost use Prim.Native.Nat.{_+_, _*_, _≤_};
 ghost use lib.ListN.{length};
 ghost use Rattle.layout.specs.Layout.{bitsOf, signedOf, wordOf};
-ghost use Rattle.layout.specs.Inner.{over};
+ghost use Rattle.words.specs.Words.{over};
 
 // What a level and the bits of its height differ by, modulo 2^32.
 const HALF: u32 = 2147483648;

@@ -5,7 +5,7 @@ ghost use Prim.Native.Nat.{_+_, _*_, _≤_};
 ghost use lib.ListN.{length, drop};
 ghost use Rattle.table.specs.Inner.{Standing, recordsIn};
 ghost use Rattle.layout.specs.Layout.{bytesOf, fieldsOf, allFieldsOf, totalOf, peakFrom, recordFrom};
-ghost use Rattle.layout.specs.Inner.{over};
+ghost use Rattle.words.specs.Words.{over};
 use crate::numbers::bits;
 use crate::numbers::put_word;
 use crate::numbers::signed;

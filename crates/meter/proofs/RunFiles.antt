@@ -22,8 +22,10 @@ use Rattle.layout.specs.declared.ReadBack.{ReadBack}
 use Rattle.layout.specs.declared.ReadBack.the-variants.{Run, Refused}
 use Rattle.layout.specs.Layout.{bytesOf, fieldsOf, allFieldsOf, peaksFrom, recordsFrom, cellsIn, peaksIn}
 use Rattle.layout.specs.Promises.{ReadAnswers, signedTold, bytesAfter}
-use Rattle.layout.specs.Inner.{over, Few, GridPut, laid, putOf, cellsToTake, recordsToTake}
-use Rattle.layout.proofs.Over.{over-front, over-nil}
+use Rattle.words.specs.Words.{over}
+use Rattle.layout.specs.Inner.{Few, GridPut, laid, putOf, cellsToTake, recordsToTake}
+use Rattle.words.proofs.Over.{over-front}
+use Rattle.layout.proofs.Over.{over-nil}
 use Rattle.layout.proofs.ReadAnswer.{read-readable, read-same}
 use Rattle.layout.proofs.HandedBytes.{refused-bytes}
 use Rattle.layout.proofs.Room.{grid-puttable, grid-written}

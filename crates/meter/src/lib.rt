@@ -7,7 +7,7 @@ ghost use Prim.Native.Nat.{_+_, _*_};
 ghost use Rattle.sound.specs.Sound.{FirstUnsound};
 ghost use Rattle.layout.specs.Layout.{bytesOf, allFieldsOf, peaksFrom};
 ghost use Rattle.layout.specs.Promises.{writtenTold, signedTold};
-ghost use Rattle.layout.specs.Inner.{over};
+ghost use Rattle.words.specs.Words.{over};
 ghost use Rattle.run.specs.Promises.{growingRun};
 ghost use Rattle.meter.specs.Promises.{lentRow, countTold, MeterColumns, MeterWrites, MeterReads};
 ghost use Rattle.meter.specs.Inner.{Copyable};

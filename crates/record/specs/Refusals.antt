@@ -1,4 +1,4 @@
--- Answers and refusals: section "What comes back" of document 01.
+-- Answers and refusals: section "What comes back" of document 01, and the refusals of document 02.
 --     Told             what an answer tells the caller: the paper's number, 0 where nothing is refused, and the values
 --     granted values   what an answer tells that is no refusal
 --     toldOf r         what the refusal r tells
@@ -14,7 +14,7 @@ use lib.Dec.{eqb, ltb}
 use Rattle.record.specs.declared.Refusal.{Refusal}
 use Rattle.record.specs.declared.Refusal.the-variants.{Rows, Length, Cells, Work, Table, Ended}
 use Rattle.record.specs.declared.Refusal.the-variants.{ColumnLength, GridFull, TakenCells, FileLength}
-use Rattle.record.specs.declared.Refusal.the-variants.{FileCounts, Unsound, Room}
+use Rattle.record.specs.declared.Refusal.the-variants.{FileCounts, Unsound, Room, Levels, TextRoom, NotEnded}
 use Rattle.record.specs.declared.Checked.{Checked}
 use Rattle.record.specs.declared.Checked.the-variants.{Good, Bad}
 use Rattle.record.specs.declared.Handed.{Handed}
@@ -54,6 +54,12 @@ toldOf FileCounts = record { number = 11; values = [] }
 toldOf (Unsound index) = record { number = 12; values = index ∷ [] }
 -- "room too short for the file (writing) or the heights (reading)"; also returns "bytes or heights needed"
 toldOf (Room needed) = record { number = 13; values = needed ∷ [] }
+-- "levels outside 1 to 64"
+toldOf Levels = record { number = 14; values = [] }
+-- "text room too short"
+toldOf TextRoom = record { number = 15; values = [] }
+-- "run not ended"
+toldOf NotEnded = record { number = 16; values = [] }
 
 -- "hands out": how many records
 abbrev pub handedTold : Handed → Told

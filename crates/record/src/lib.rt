@@ -103,7 +103,8 @@ pub fn prominence(height: i32, key: i32) -> u32
     (height as i64 - key as i64) as u32
 }
 
-// Why a call is refused: the cases of document 01's table "What comes back", in its order, with what they also return.
+// Why a call is refused: the cases of document 01's table "What comes back", then those of document 02, in order of their
+// numbers, with what they also return.
 // A number needed fits 32 bits: no file is longer than 24 + 20 x 1,048,576 bytes.
 pub enum Refusal {
     Rows,
@@ -119,6 +120,9 @@ pub enum Refusal {
     FileCounts,
     Unsound { index: u32 },
     Room { needed: u32 },
+    Levels,
+    TextRoom,
+    NotEnded,
 }
 
 // What the tests of a call say: none applies, or the first that does refuses it.
@@ -176,7 +180,7 @@ pub enum Handed {
     Refused(Refusal),
 }
 
-// The number of a refusal in that table.
+// The number of a refusal in the documents.
 pub fn number(refusal: Refusal) -> u32
     ensures { λ r. ⌜ r ≡ toldOf refusal .number ⌝ }
 {
@@ -194,5 +198,8 @@ pub fn number(refusal: Refusal) -> u32
         Refusal::FileCounts => 11,
         Refusal::Unsound { index: _ } => 12,
         Refusal::Room { needed: _ } => 13,
+        Refusal::Levels => 14,
+        Refusal::TextRoom => 15,
+        Refusal::NotEnded => 16,
     }
 }

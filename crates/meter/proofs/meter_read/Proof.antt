@@ -12,7 +12,7 @@ use mir.ValLaws.{toZ-ofZ}
 use borrow.Author.Needs.{needs}
 use Rattle.layout.specs.Layout.{bytesOf, allFieldsOf, peaksFrom, recordsFrom, cellsIn, peaksIn}
 use Rattle.layout.specs.Promises.{bytesAfter}
-use Rattle.layout.specs.Inner.{over}
+use Rattle.words.specs.Words.{over}
 use Rattle.meter.proofs.RunFiles.{file-few, file-copyable, file-taken}
 use Rattle.meter.proofs.meter_read.Statement.{statement}
 use Rattle.meter.proofs.meter_read.Tie as tie

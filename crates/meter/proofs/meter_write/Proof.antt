@@ -8,7 +8,7 @@ use mir.Syntax.{w64}
 use mir.ValLaws.{toZ-ofZ}
 use borrow.Author.Needs.{needs}
 use Rattle.layout.specs.Layout.{bytesOf, allFieldsOf, peaksFrom}
-use Rattle.layout.specs.Inner.{over}
+use Rattle.words.specs.Words.{over}
 use Rattle.meter.proofs.RunFiles.{row-few, row-copyable, row-written}
 use Rattle.meter.proofs.meter_write.Statement.{statement}
 use Rattle.meter.proofs.meter_write.Tie as tie

@@ -6,7 +6,7 @@ use native.Mathlib.Omega.{arith}
 use borrow.Author.Needs.{needs}
 use denote.Ref.{now}
 use Rattle.layout.specs.Layout.{bytesOf, fieldsOf, totalOf}
-use Rattle.layout.specs.Inner.{over}
+use Rattle.words.specs.Words.{over}
 use Rattle.layout.proofs.records.put_record.Statement.{statement}
 use Rattle.layout.proofs.records.put_record.Tie as tie
 

@@ -10,8 +10,8 @@ use lib.ListN.{length}
 use borrow.Author.Needs.{needs}
 use Rattle.layout.specs.Layout.{bitsOf, bytesOf, headerOf}
 use Rattle.layout.specs.Promises.{writtenTold}
-use Rattle.layout.specs.Inner.{over}
-use Rattle.layout.proofs.Over.{over-over}
+use Rattle.words.specs.Words.{over}
+use Rattle.words.proofs.Over.{over-over}
 use Rattle.layout.proofs.Rows.{bytes-length, bytes-append}
 use Rattle.layout.proofs.WriteAnswer.{Writable, written-writable}
 use Rattle.layout.proofs.writer.put_grid.Statement.{statement}

@@ -13,8 +13,9 @@ use mir.Syntax.{w32}
 use mir.ValLaws.{toZ-ofZ}
 use borrow.Author.Needs.{needs}
 use Rattle.layout.specs.Layout.{bitsOf, wordOf, bytesOf}
-use Rattle.layout.specs.Inner.{over}
-use Rattle.layout.proofs.Over.{over-nil, over-next, over-length}
+use Rattle.words.specs.Words.{over}
+use Rattle.words.proofs.Over.{over-length}
+use Rattle.layout.proofs.Over.{over-nil, over-next}
 use Rattle.layout.proofs.Rows.{bytes-length}
 use Rattle.layout.proofs.writer.put_heights.Statement.{statement}
 use Rattle.layout.proofs.writer.put_heights.Tie as tie

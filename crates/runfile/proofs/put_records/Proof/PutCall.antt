@@ -26,7 +26,7 @@ use Rattle.record.proofs.Peak.Laws as T′
 use Rattle.table.proofs.Walks.{Promise}
 use Rattle.table.proofs.LentAgain.{LentMut, lends-again, comes-back}
 use Rattle.layout.specs.Layout.{bytesOf, fieldsOf, totalOf}
-use Rattle.layout.specs.Inner.{over}
+use Rattle.words.specs.Words.{over}
 use Rattle.layout.proofs.records.put_record as put-one
 use Rattle.layout.proofs.records.put_record.Symbol.{name as #layout·put-record}
 

@@ -16,7 +16,8 @@ use Rattle.record.specs.Records.{withoutKey}
 use Rattle.table.proofs.Upto.{Upto}
 use Rattle.layout.specs.Layout.{bytesOf, fieldsOf, totalOf}
 use Rattle.sound.specs.Sound.{ithOf}
-use Rattle.layout.specs.Inner.{over, Puttable, laid}
+use Rattle.words.specs.Words.{over}
+use Rattle.layout.specs.Inner.{Puttable, laid}
 use Rattle.layout.proofs.Laid.{laid-length, laid-step}
 
 abbrev pub none : Peak
