@@ -6,6 +6,9 @@ pub mod Flats  -- flats and peaks; what outranks is better
 pub mod Keys  -- key heights, islands, pass cells
 pub mod Lists  -- entries, and lists in reading order
 pub mod Survey  -- the definitions computed: entries and the list
+pub mod Parents  -- parents and what they are
+pub mod Families  -- what the outline is made of, and that there is one
+pub mod OutlineSurvey  -- the outline computed
 pub mod BatchSurvey  -- and what the calls of a run hand out
 pub mod Closed  -- what is closed stays, what is open can change
 pub mod Batches  -- the batches hold the list

@@ -2,6 +2,7 @@
 --     entry-unique      a peak has one entry
 --     entry-floor, entry-best    its key height is below it, and nothing on its island is better
 --     alike-*           entries that are the same but for the pass cell
+--     sorted-equal      two lists in one order with the same members are equal
 --     order-unique      two lists in reading order of the same entries are equal
 --     collect           the entries of the cells that pass a test, in reading order
 --     collect-order     and that they are a list in reading order
@@ -81,48 +82,49 @@ wanted-alike {touch} {level} {level′} T d e a r r′ = go (d .key) (e .key) (r
 
 -- ---- two lists of the same entries
 
-rising-member : (b : ℕ) (l : List Entry) (e : Entry) → Rising b l → Member e l → b ≤ e .cell
-rising-member b [] e r m = absurd m
-rising-member b (x ∷ l) e r (inl h) =
-    let s : e .cell ≡ x .cell = ap (λ (y : Entry). y .cell) h in let k = r .0 in omega arith
-rising-member b (x ∷ l) e r (inr m) = let h = rising-member (suc (x .cell)) l e (r .1) m in let k = r .0 in omega arith
+-- each entry stands in the order R before those behind it
+abbrev pub Sorted : (Entry → Entry → Type 0) → List Entry → Type 0
+Sorted R [] = Unit {0}
+Sorted R (x ∷ l) = ((e : Entry) → Member e l → R x e) × Sorted R l
 
-order-equal : (l m : List Entry) (a b : ℕ) → Rising a l → Rising b m
+pub sorted-equal : {R : Entry → Entry → Type 0} → ((d e : Entry) → R d e → R e d → ⊥)
+    → (l m : List Entry) → Sorted R l → Sorted R m
     → ((e : Entry) → Member e l → Member e m) → ((e : Entry) → Member e m → Member e l)
     → l ≡ m
-order-equal [] [] a b r s f g = refl
-order-equal [] (y ∷ m) a b r s f g = absurd (g y (inl refl))
-order-equal (x ∷ l) [] a b r s f g = absurd (f x (inl refl))
-order-equal (x ∷ l) (y ∷ m) a b r s f g =
-    tails (heads (f x (inl refl)) (g y (inl refl))) (order-equal l m (suc (x .cell)) (suc (y .cell)) (r .1) (s .1))
+sorted-equal asym [] [] r s f g = refl
+sorted-equal asym [] (y ∷ m) r s f g = absurd (g y (inl refl))
+sorted-equal asym (x ∷ l) [] r s f g = absurd (f x (inl refl))
+sorted-equal {R} asym (x ∷ l) (y ∷ m) r s f g =
+    tails (heads (f x (inl refl)) (g y (inl refl))) (sorted-equal asym l m (r .1) (s .1))
   where
     heads : (x ≡ y) ⊎ Member x m → (y ≡ x) ⊎ Member y l → x ≡ y
     heads (inl e) q = e
     heads (inr h) (inl e) = sym e
-    heads (inr h) (inr k) =
-        let i = rising-member (suc (y .cell)) m x (s .1) h in
-        let j = rising-member (suc (x .cell)) l y (r .1) k in
-        absurd (omega arith)
+    heads (inr h) (inr k) = absurd (asym x y (r .0 y k) (s .0 x h))
 
     tails : x ≡ y
         → (((e : Entry) → Member e l → Member e m) → ((e : Entry) → Member e m → Member e l) → l ≡ m)
         → x ∷ l ≡ y ∷ m
     tails e rest =
-        let c : x .cell ≡ y .cell = ap (λ (z : Entry). z .cell) e in
         let t : l ≡ m = rest
-        (λ z h. split (f z (inr h))
-        (λ k. let d : z .cell ≡ y .cell = ap (λ (w : Entry). w .cell) k in
-        let i = rising-member (suc (x .cell)) l z (r .1) h in absurd (omega arith))
-        (λ k. k))
-        (λ z h. split (g z (inr h))
-        (λ k. let d : z .cell ≡ x .cell = ap (λ (w : Entry). w .cell) k in
-        let i = rising-member (suc (y .cell)) m z (s .1) h in absurd (omega arith))
-        (λ k. k)) in
+        (λ z h. split (f z (inr h)) (λ k. let i = subst (R x) (k ∙ sym e) (r .0 z h) in absurd (asym x x i i)) (λ k. k))
+        (λ z h. split (g z (inr h)) (λ k. let i = subst (R y) (k ∙ e) (s .0 z h) in absurd (asym y y i i)) (λ k. k)) in
         cc
+
+pub rising-member : (b : ℕ) (l : List Entry) (e : Entry) → Rising b l → Member e l → b ≤ e .cell
+rising-member b [] e r m = absurd m
+rising-member b (x ∷ l) e r (inl h) =
+    let s : e .cell ≡ x .cell = ap (λ (y : Entry). y .cell) h in let k = r .0 in omega arith
+rising-member b (x ∷ l) e r (inr m) = let h = rising-member (suc (x .cell)) l e (r .1) m in let k = r .0 in omega arith
+
+rising-sorted : (b : ℕ) (l : List Entry) → Rising b l → Sorted (λ d e. d .cell < e .cell) l
+rising-sorted b [] r = tt
+rising-sorted b (x ∷ l) r =
+    (λ e m. rising-member (suc (x .cell)) l e (r .1) m, rising-sorted (suc (x .cell)) l (r .1))
 
 pub order-unique : {P : Entry → Type 0} (l m : List Entry) → InReadingOrder P l → InReadingOrder P m → l ≡ m
 order-unique l m h h′ =
-    order-equal l m 0 0 (h .rising) (h′ .rising)
+    sorted-equal (λ d e i j. omega arith) l m (rising-sorted 0 l (h .rising)) (rising-sorted 0 m (h′ .rising))
     (λ e k. h′ .complete e (h .sound e k)) (λ e k. h .complete e (h′ .sound e k))
 
 -- ---- a list from a test at every cell

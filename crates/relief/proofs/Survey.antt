@@ -76,7 +76,7 @@ implies-decides {a = false} p q = record {
 }
 
 -- `both`, where the second is decided only if the first holds
-and-decides-then : {A B : Type 0} {a b : Bool} → Decides A a → (A → Decides B b) → Decides (A × B) (a && b)
+pub and-decides-then : {A B : Type 0} {a b : Bool} → Decides A a → (A → Decides B b) → Decides (A × B) (a && b)
 and-decides-then {a = true} p q = let d = q (p .holds refl) in record {
   holds = λ e. (p .holds refl, d .holds e);
   fails = λ e h. d .fails e (h .1);

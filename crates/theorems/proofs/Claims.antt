@@ -18,13 +18,16 @@ use Rattle.relief.proofs.Flats.{Terrain, land-below, climb}
 use Rattle.relief.proofs.Keys as Keys
 use Rattle.relief.proofs.Lists as Listing
 use Rattle.relief.proofs.Survey.{peak-key, survey-list}
+use Rattle.relief.proofs.Parents as Parents
+use Rattle.relief.proofs.Families.{outline-unique}
+use Rattle.relief.proofs.OutlineSurvey.{survey-outline}
 use Rattle.relief.proofs.Closed as Closing
 use Rattle.relief.proofs.Batches as Growing
 use Rattle.relief.proofs.Plane as Plane
 use Rattle.relief.proofs.Levels.{heightOf-level}
 use Rattle.relief.proofs.Shapes.{touch-decides, touch-symmetric, stage-further, run-grows, stage-open-changes}
 use Rattle.theorems.specs.Claims.{Touching, OfGrid, Handing, OfHanding, Claims}
-use Rattle.theorems.proofs.Grids.{marked-follow}
+use Rattle.theorems.proofs.Grids.{marked-follow, parent-can-change}
 
 abbrev isYes : {A : Type 0} → Dec A → Bool
 isYes (yes a) = true
@@ -106,6 +109,13 @@ module _ {touch : ℕ → ℕ → Type 0} {touch? : ℕ → ℕ → Bool} {level
         complete = λ e m. h .complete e (wanted-one e m);
       },
     );
+    parent-exists = λ p k q h. Parents.parent-exists t q h;
+    parent-unique = λ p q r h h′. Parents.parent-unique t h h′;
+    parent-none = λ p q none h. Parents.parent-none t none h;
+    parent-outranks = λ p q r h. Parents.parent-outranks t r h;
+    parent-listed = λ T q e l h. Parents.parent-listed t l h;
+    outline-exists = λ T levels. (_, survey-outline t T levels);
+    outline-unique = λ T levels x y h h′. outline-unique h h′;
   }
     where
       stays : (In : ℕ → Type 0) (k : ℕ) → ((a b : ℕ) → In a → (In b → ⊥) → touch a b → level b ≤ k)
@@ -169,5 +179,6 @@ claims = record {
         stage-open-changes shape columns heights whole (heightOf (suc (e .level))) e o (omega arith),
       );
   handing = of-handing;
+  parent-can-change = parent-can-change;
   marked-follow = marked-follow;
 }

@@ -1,25 +1,31 @@
--- The marked grids follow from the definitions: the survey, run on each of them, gives what the table says.
---     agrees x           the survey of an example gives what the table says, by a test
---     follow             and then each example is as the definitions say
---     marked-follow      the whole table, by one computation
+-- The grids of the table follow from the definitions: the survey, run on each of them, gives what the table says.
+--     agrees x             the survey of an example gives what the table says, by a test
+--     follow               and then each example is as the definitions say
+--     marked-follow        the whole table, by one computation
+--     parent-can-change    and by another that a closed peak's parent may change
 -- Assumes nothing.
 use mathlib.Core.Path.{_≡_, refl, subst}
 use mathlib.Core.Bool.{Bool, true, false, _&&_}
 use mathlib.Core.List.{List, [], _∷_}
 use Prim.Native.Nat.{ℕ, suc, _*_}
+use native.Mathlib.Omega.{arith}
 use lib.Dec.{eqb}
 use lib.IntN.{ℤ}
 use lib.ListN.{length}
 use borrow.Author.Tests.{eqb-true}
-use Rattle.relief.specs.Heights.{levelOf, levels}
+use Rattle.relief.specs.Heights.{levelOf, heightOf, levels}
 use Rattle.relief.specs.Peaks.{Key, missing, key, Entry, ListOf}
 use Rattle.relief.specs.Runs.{Batch, Rest}
 use Rattle.relief.specs.Plane.{Shape, planeOf, touchOf, stageOf}
+use Rattle.relief.specs.Outline.{decimalOf, peakLine, passLine, each, peakText, Outline}
 use Rattle.relief.proofs.Tests.{true-not-false, and-true}
-use Rattle.relief.proofs.Survey.{peak?, better?, joined?, keyLevel, entryAt, listed?, survey, survey-list}
-use Rattle.relief.proofs.BatchSurvey.{closed?, surveyRest, surveyBatch, survey-rest, survey-batch}
+use Rattle.relief.proofs.Survey.{peak?, better?, joined?, keyLevel, entryAt, listed?, survey, peak-decides, survey-list}
+use Rattle.relief.proofs.BatchSurvey.{closed?, closed-decides, surveyRest, surveyBatch, survey-rest, survey-batch}
+use Rattle.relief.proofs.OutlineSurvey.{parent?, surveyTops, surveyChildren, surveyOutline, parent-decides}
+use Rattle.relief.proofs.OutlineSurvey.{survey-outline}
 use Rattle.relief.proofs.Shapes.{touch?, shape-terrain, stage-staged}
-use Rattle.theorems.specs.Grids.{Example, grid, run, HandedOut, Follow, marked}
+use Rattle.theorems.specs.Claims.{changing, ParentCanChange}
+use Rattle.theorems.specs.Grids.{Example, grid, run, outline, HandedOut, Follow, marked}
 
 -- ---- tests of equality
 
@@ -61,6 +67,22 @@ same-equal (x ∷ l) (y ∷ m) e =
     let t : l ≡ m = same-equal l m i in
     cc
 
+abbrev sameText : List ℕ → List ℕ → Bool
+sameText [] [] = true
+sameText [] (y ∷ m) = false
+sameText (x ∷ l) [] = false
+sameText (x ∷ l) (y ∷ m) = eqb x y && sameText l m
+
+sameText-equal : (l m : List ℕ) → sameText l m ≡ true → l ≡ m
+sameText-equal [] [] e = refl
+sameText-equal [] (y ∷ m) e = true-not-false e refl
+sameText-equal (x ∷ l) [] e = true-not-false e refl
+sameText-equal (x ∷ l) (y ∷ m) e =
+    let (h, i) = and-true (eqb x y) (sameText l m) e in
+    let p = eqb-true x y h in
+    let q = sameText-equal l m i in
+    cc
+
 -- ---- the test of an example
 
 abbrev agreesFrom : Shape → ℕ → List ℤ → ℕ → List (List Entry) → List Entry → Bool
@@ -73,6 +95,8 @@ agreesFrom shape T heights j (batch ∷ batches) rest =
 abbrev agrees : Example → Bool
 agrees (grid rows T heights list) = same (survey (touch? (planeOf rows)) (levels heights) (length heights) T) list
 agrees (run rows T heights batches rest) = agreesFrom (planeOf rows) T heights 0 batches rest
+agrees (outline rows T depths heights text) =
+    sameText (surveyOutline (touch? (planeOf rows)) (levels heights) (length heights) T depths) text
 
 abbrev all : List Example → Bool
 all [] = true
@@ -104,10 +128,30 @@ follow (grid rows T heights list ∷ xs) e =
 follow (run rows T heights batches rest ∷ xs) e =
     let (h, i) = and-true (agreesFrom (planeOf rows) T heights 0 batches rest) (all xs) e in
     (follows-from (planeOf rows) T heights 0 batches rest h, follow xs i)
+follow (outline rows T depths heights text ∷ xs) e =
+    let (h, i) = and-true (agrees (outline rows T depths heights text)) (all xs) e in (
+      subst (Outline (touchOf (planeOf rows)) (levels heights) T depths) (sameText-equal _ text h)
+          (survey-outline (shape-terrain (planeOf rows) heights) T depths),
+      follow xs i,
+    )
 
 pub marked-follow : Follow marked
 unfolding marked levels levelOf peak? better? joined? keyLevel entryAt closed? listed? survey surveyRest surveyBatch
+    heightOf decimalOf peakLine passLine each peakText parent? surveyTops surveyChildren surveyOutline
 marked-follow = follow marked agree
   where
     agree : all marked ≡ true
     agree = refl
+
+pub parent-can-change : ParentCanChange
+unfolding levels levelOf peak? better? joined? keyLevel entryAt closed? parent?
+parent-can-change =
+    let t = stage-staged (planeOf 1) 3 changing in
+    let t′ = stage-staged (planeOf 1) 4 changing in
+    record {
+      closed = closed-decides t 0 .holds refl;
+      still = closed-decides t′ 0 .holds refl;
+      parent = parent-decides t 0 2 (peak-decides t 0 .holds refl) .holds refl;
+      after = parent-decides t′ 0 3 (peak-decides t′ 0 .holds refl) .holds refl;
+      other = λ e. omega arith;
+    }

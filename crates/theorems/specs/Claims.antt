@@ -1,13 +1,14 @@
 -- What is claimed of the definitions, beyond any code; `proofs/Claims.antt` has a proof of each. Assumes nothing.
-use mathlib.Core.{Path._≡_, List.List, List._++_, Logic._⊎_, Logic._↔_}
+use mathlib.Core.{Path._≡_, List.List, List.[], List._∷_, List._++_, Logic._⊎_, Logic._↔_}
 use Prim.Native.Nat.{ℕ, suc, _+_, _-_, _*_, _≤_, _<_}
-use lib.{IntN.ℤ, ListN.length, ListN.replicate, Signed.mag}
+use lib.{IntN.ℤ, IntN.pos, ListN.length, ListN.replicate, Signed.mag}
 use Rattle.relief.specs.Heights.{levelOf}
 use Rattle.relief.specs.Peaks.{Way, least, Path, Peak, Outranks, KeyHeight, NoKey, Island, PassCell, Entry}
 use Rattle.relief.specs.Peaks.{floorOf, passCellOf, prominence, Member, Among, InReadingOrder, PeakEntry, ListOf}
+use Rattle.relief.specs.{Peaks.Listed, Outline.Parent, Outline.Outline}
 use Rattle.relief.specs.Runs.{Stage, Closed, Open, Batch, Rest, Further, Growing, StaysClosed}
-use Rattle.relief.specs.Plane.{rowOf, columnOf, Plane, Shape, touchOf, stageOf}
-use Rattle.theorems.specs.Grids.{Follow, marked}
+use Rattle.relief.specs.Plane.{rowOf, columnOf, Plane, Shape, planeOf, touchOf, stageOf}
+use Rattle.theorems.specs.Grids.{keyed, Follow, marked}
 
 -- A symmetric way of touching that a test tells.
 pub record Touching : Type 1 where
@@ -42,6 +43,19 @@ pub record OfGrid (touch : ℕ → ℕ → Type 0) (level : ℕ → ℕ) : Type 
   pub list-exists : (T : ℕ) → (l : List Entry) × ListOf touch level T l
   -- "0 lists what 1 lists"
   pub zero-lists-one : (l : List Entry) → ListOf touch level 0 l ↔ ListOf touch level 1 l
+  -- "Give each peak that has a key height a parent": it has one, and no other peak has any.
+  pub parent-exists : (p k : ℕ) → Peak touch level p → KeyHeight touch level p k → (q : ℕ) × Parent touch level p q
+  pub parent-unique : (p q r : ℕ) → Parent touch level p q → Parent touch level p r → q ≡ r
+  pub parent-none : (p q : ℕ) → NoKey touch level p → Parent touch level p q → ⊥
+  -- The parent outranks its child.
+  pub parent-outranks : (p q : ℕ) → Peak touch level p → Parent touch level p q → Outranks touch level p q
+  -- "Prove that the parent of a listed peak is listed."
+  pub parent-listed : (T q : ℕ) (e : Entry) → Listed touch level T e → Parent touch level (e .cell) q
+      → (d : Entry) × (d .cell ≡ q) × Listed touch level T d
+  pub outline-exists : (T levels : ℕ) → (text : List ℕ) × Outline touch level T levels text
+  -- Two outlines that the definition allows are equal.
+  pub outline-unique : (T levels : ℕ) (t u : List ℕ) → Outline touch level T levels t → Outline touch level T levels u
+      → t ≡ u
 
 module _ (touch : ℕ → ℕ → Type 0) (stage : ℕ → Stage) (columns T : ℕ) (batch : ℕ → List Entry) (rest : List Entry) where
   -- A run from its start, column by column, with what the calls handed out of it.
@@ -63,6 +77,23 @@ module _ (touch : ℕ → ℕ → Type 0) (stage : ℕ → Stage) (columns T : �
     pub batches-pass : (l : List Entry) → ListOf touch (stage columns .level) T l → (d e : Entry) → Member e l
         → ((j : ℕ) × (j < columns) × Member d (batch j)) ⊎ Member d rest
         → d .cell ≡ e .cell → passCellOf (d .key) ≡ passCellOf (e .key)
+
+-- The peak e is closed at both stages; its parent is q at the first and q′ at the second.
+pub record ParentChanges (touch : ℕ → ℕ → Type 0) (s s′ : Stage) (e : Entry) (q q′ : ℕ) : Type 0 where
+  pub closed : Closed touch s e
+  pub still : Closed touch s′ e
+  pub parent : Parent touch (s .level) (e .cell) q
+  pub after : Parent touch (s′ .level) (e .cell) q′
+  pub other : q ≡ q′ → ⊥
+
+-- Of the columns 1 0 2 3 the first three close the 1, and its parent is the 2; with the fourth it is the 3.
+abbrev pub changing : List ℤ
+changing = pos 1 ∷ pos 0 ∷ pos 2 ∷ pos 3 ∷ []
+
+abbrev pub ParentCanChange : Type 0
+ParentCanChange =
+    ParentChanges (touchOf (planeOf 1)) (stageOf (planeOf 1) 3 changing) (stageOf (planeOf 1) 4 changing)
+    (keyed 0 (pos 1) (pos 0) 1) 2 3
 
 pub record Claims : Type 1 where
   -- "Cell number = column x rows + row."
@@ -104,5 +135,7 @@ pub record Claims : Type 1 where
       → d .cell ≡ e .cell → floorOf (d .key) ≡ floorOf (e .key) → ⊥)
   pub handing : (t : Touching) (stage : ℕ → Stage) (columns T : ℕ) (batch : ℕ → List Entry) (rest : List Entry)
       → Handing (t .touch) stage columns T batch rest → OfHanding (t .touch) stage columns T batch rest
-  -- "The ten grids marked * below are shown to follow from the definitions"
+  -- "Until the end a closed peak's parent may change; demand 3 doesn't cover parents."
+  pub parent-can-change : ParentCanChange
+  -- "The ten grids marked * below are shown to follow from the definitions", and the outline of document 02.
   pub marked-follow : Follow marked

@@ -1,10 +1,12 @@
--- The marked grids of section "Grids to check by" of document 01, as one table. Assumes nothing.
+-- The marked grids of section "Grids to check by" of document 01, and the outline of request (i) of document 02, as one
+-- table. Assumes nothing.
 use mathlib.Core.{Path._≡_, List.List, List.[], List._∷_}
 use Prim.Native.Nat.{ℕ, suc, _*_}
 use lib.{IntN.ℤ, IntN.pos, IntN.negsuc, ListN.length}
 use Rattle.relief.specs.Heights.{BLANK, levelOf, levels}
 use Rattle.relief.specs.Peaks.{missing, key, Entry, ListOf}
 use Rattle.relief.specs.{Runs.Batch, Runs.Rest, Plane.Shape, Plane.planeOf, Plane.touchOf, Plane.stageOf}
+use Rattle.relief.specs.Outline.{Outline}
 
 -- "records as cell, height, key, pass; "-" is missing"
 abbrev pub lone : ℕ → ℤ → Entry
@@ -13,10 +15,12 @@ lone cell height = record { cell = cell; level = levelOf height; key = missing }
 abbrev pub keyed : ℕ → ℤ → ℤ → ℕ → Entry
 keyed cell height k pass = record { cell = cell; level = levelOf height; key = key (levelOf k) pass }
 
--- A grid with its list at the threshold T, or a run with its batches and what End hands out.
+-- A grid with its list at the threshold T, a run with its batches and what End hands out, or a grid with the text of
+-- its outline to so many levels.
 pub data Example : Type 0 where
   grid : (rows T : ℕ) (heights : List ℤ) (list : List Entry) → Example
   run : (rows T : ℕ) (heights : List ℤ) (batches : List (List Entry)) (rest : List Entry) → Example
+  outline : (rows T depths : ℕ) (heights : List ℤ) (text : List ℕ) → Example
 
 -- The columns after the first j, offered one by one, hand out these batches, and End after them the rest.
 abbrev pub HandedOut : Shape → ℕ → List ℤ → ℕ → List (List Entry) → List Entry → Type 0
@@ -31,6 +35,8 @@ abbrev pub Follow : List Example → Type 0
 Follow [] = Unit {0}
 Follow (grid rows T heights list ∷ xs) = ListOf (touchOf (planeOf rows)) (levels heights) T list × Follow xs
 Follow (run rows T heights batches rest ∷ xs) = HandedOut (planeOf rows) T heights 0 batches rest × Follow xs
+Follow (outline rows T depths heights text ∷ xs) =
+    Outline (touchOf (planeOf rows)) (levels heights) T depths text × Follow xs
 
 unfoldable pub marked : List Example
 marked =
@@ -57,4 +63,18 @@ marked =
     ∷ run 1 1 (pos 5 ∷ BLANK ∷ []) ([] ∷ (lone 0 (pos 5) ∷ []) ∷ []) []
     -- "Two rows, cells 8 1 1 7: one peak, at 0; the 7 touches the 8 at a corner."
     ∷ grid 2 1 (pos 8 ∷ pos 1 ∷ pos 1 ∷ pos 7 ∷ []) (lone 0 (pos 8) ∷ [])
+    -- "The one-row run 9 2 5 4 7 at T = 1 and two levels prints `1 peak 0 9 0`, `1 pass 1 2`, `2 peak 4 7 1`": three
+    -- lines, with a line feed behind each.
+    ∷ outline 1 1 2 (pos 9 ∷ pos 2 ∷ pos 5 ∷ pos 4 ∷ pos 7 ∷ [])
+    (49 ∷ 32 ∷ 112 ∷ 101 ∷ 97 ∷ 107 ∷ 32 ∷ 48 ∷ 32 ∷ 57 ∷ 32 ∷ 48 ∷ 10
+    ∷ 49 ∷ 32 ∷ 112 ∷ 97 ∷ 115 ∷ 115 ∷ 32 ∷ 49 ∷ 32 ∷ 50 ∷ 10
+    ∷ 50 ∷ 32 ∷ 112 ∷ 101 ∷ 97 ∷ 107 ∷ 32 ∷ 52 ∷ 32 ∷ 55 ∷ 32 ∷ 49 ∷ 10 ∷ [])
+    -- "Passes under one peak go by falling height": of the one-row run 8 3 5 1 4 the text is `1 peak 0 8 0`,
+    -- `1 pass 1 3`, `2 peak 2 5 0`, `1 pass 3 1`, `2 peak 4 4 0`. This one is not the paper's.
+    ∷ outline 1 1 2 (pos 8 ∷ pos 3 ∷ pos 5 ∷ pos 1 ∷ pos 4 ∷ [])
+    (49 ∷ 32 ∷ 112 ∷ 101 ∷ 97 ∷ 107 ∷ 32 ∷ 48 ∷ 32 ∷ 56 ∷ 32 ∷ 48 ∷ 10
+    ∷ 49 ∷ 32 ∷ 112 ∷ 97 ∷ 115 ∷ 115 ∷ 32 ∷ 49 ∷ 32 ∷ 51 ∷ 10
+    ∷ 50 ∷ 32 ∷ 112 ∷ 101 ∷ 97 ∷ 107 ∷ 32 ∷ 50 ∷ 32 ∷ 53 ∷ 32 ∷ 48 ∷ 10
+    ∷ 49 ∷ 32 ∷ 112 ∷ 97 ∷ 115 ∷ 115 ∷ 32 ∷ 51 ∷ 32 ∷ 49 ∷ 10
+    ∷ 50 ∷ 32 ∷ 112 ∷ 101 ∷ 97 ∷ 107 ∷ 32 ∷ 52 ∷ 32 ∷ 52 ∷ 32 ∷ 48 ∷ 10 ∷ [])
     ∷ []
