@@ -1,7 +1,7 @@
-mod ChosenCells  -- the answers of `chosen`
-mod Places  -- entries of rising places are a list in reading order
-mod CellKinds  -- what the tests say of each kind of cell
-mod Answers  -- from a sweep and a collection to the entries handed out
+pub mod ChosenCells  -- the answers of `chosen`
+pub mod Places  -- entries of rising places are a list in reading order; lists behind lists
+pub mod CellKinds  -- what the tests say of each kind of cell
+pub mod Answers  -- from a sweep and a collection to the entries handed out
 mod Surveys  -- rank, sweep and collect, one after the other
 mod Marks  -- the closed peaks of the first columns marked
 pub mod Loads  -- the levels of heights loaded
