@@ -103,8 +103,8 @@ pub fn prominence(height: i32, key: i32) -> u32
     (height as i64 - key as i64) as u32
 }
 
-// Why a call is refused: the cases of document 01's table "What comes back", then those of document 02, in order of their
-// numbers, with what they also return.
+// Why a call is refused: the cases of document 01's table "What comes back", then those of document 02, in order of
+// their numbers, with what they also return.
 // A number needed fits 32 bits: no file is longer than 24 + 20 x 1,048,576 bytes.
 pub enum Refusal {
     Rows,

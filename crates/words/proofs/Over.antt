@@ -2,14 +2,16 @@
 --     over-none, over-front, over-length   no bytes change nothing; at the front; the length stays
 --     over-before, over-in, over-behind    the byte at a place
 --     over-over                            bytes laid behind those just laid are one row of bytes
+--     over-set, over-ahead, over-push      a byte stored alone, just before those laid, just behind them
 -- Assumes nothing.
-use mathlib.Core.List.{List, [], _++_, append-assoc}
-use mathlib.Core.Path.{_≡_, sym, ap, _∙_}
-use Prim.Native.Nat.{ℕ, _+_, _≤_, _<_}
+use mathlib.Core.List.{List, [], _∷_, _++_, append-assoc}
+use mathlib.Core.Path.{_≡_, refl, sym, ap, _∙_}
+use Prim.Native.Nat.{ℕ, suc, _+_, _≤_, _<_}
 use native.Mathlib.Nat.{add-zero}
 use native.Mathlib.Omega.{arith}
-use lib.ListN.{length, getD, take, drop, length-append, length-drop, take-append-drop, List·getD-append}
+use lib.ListN.{length, getD, take, drop, set, length-append, length-drop, take-append-drop, List·getD-append}
 use lib.Seq.{take-at, drop-drop, drop-append-add, getD-append-add, getD-take, getD-drop, length-take-le}
+use lib.Seq.{take-suc, append-snoc, set-at}
 use Rattle.words.specs.Words.{over}
 
 pub over-none : (s : List ℕ) (at : ℕ) → s ≡ over s at []
@@ -67,3 +69,27 @@ module _ (s : List ℕ) (at : ℕ) (bs : List ℕ) (fits : at + length bs ≤ le
       ∙ drop-drop (length cs) (at + length bs) s
       ∙ ap (λ (n : ℕ). drop n s) end in
       rw (front, back) (simp append-assoc)
+
+pub over-ahead : (s : List ℕ) (at next b : ℕ) (bs : List ℕ) → next ≡ suc at → next + length bs ≤ length s
+    → set (over s next bs) at b ≡ over s at (b ∷ bs)
+unfolding over
+over-ahead s at next b bs e fits =
+    let l : at < length s = omega arith in
+    let end : next + length bs ≡ at + length (b ∷ bs) = omega arith in
+    let tail = bs ++ drop (next + length bs) s in
+    ap (λ (k : ℕ). set (take k s ++ tail) at b) e
+    ∙ ap (λ (p : List ℕ). set (p ++ tail) at b) (take-suc s at 0 l)
+    ∙ ap (λ (p : List ℕ). set p at b) (append-snoc (take at s) (getD s at 0) tail)
+    ∙ set-at (take at s) (getD s at 0) tail b at (length-take-le at s (omega arith))
+    ∙ ap (λ (k : ℕ). take at s ++ b ∷ (bs ++ drop k s)) end
+
+pub over-set : (s : List ℕ) (at b : ℕ) → at < length s → set s at b ≡ over s at (b ∷ [])
+over-set s at b l =
+    ap (λ (u : List ℕ). set u at b) (over-none s (suc at)) ∙ over-ahead s at (suc at) b [] refl (omega arith)
+
+pub over-push : (s : List ℕ) (at : ℕ) (bs : List ℕ) {t : List ℕ} (next b : ℕ) → t ≡ over s at bs
+    → next ≡ at + length bs → next < length s → set t next b ≡ over s at (bs ++ (b ∷ []))
+over-push s at bs next b laid e l =
+    let h : next < length (over s at bs) = rw (over-length s at bs (omega arith)) l in
+    ap (λ (u : List ℕ). set u next b) laid ∙ over-set (over s at bs) next b h
+    ∙ over-over s at bs (omega arith) next (b ∷ []) e
