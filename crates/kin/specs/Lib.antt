@@ -1,0 +1,2 @@
+pub mod Kin  -- peaks linked under peaks
+pub mod Inner  -- peaks hung, passes threaded: inner contracts
