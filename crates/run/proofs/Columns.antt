@@ -1,6 +1,7 @@
 -- Column and End once their tests have passed, and where one refuses: the record, the grid and what stands in the work
 -- area. `held` and `r` are the cells held and the rows as the code has them.
 --     copied                        the copy of a column
+--     loaded-stage                  the levels loaded are those of a stage
 --     column-loading, -surveying    what the calls below ask; end-loading, end-surveying
 --     column-made, end-made         the promise of a call that does its work
 --     column-refused, end-refused   the promise of one that a test refuses
@@ -51,7 +52,7 @@ copied grid at column i z {now} {v} fits l e f =
 -- ---- stages
 
 -- the levels loaded, of the first m cells
-loaded-stage : {s t : List ℕ} {heights : List ℤ} {n m : ℕ} → Loaded s t heights n → m ≤ n
+pub loaded-stage : {s t : List ℕ} {heights : List ℤ} {n m : ℕ} → Loaded s t heights n → m ≤ n
     → cut m (levelIn t) ≡ levels (take m heights)
 loaded-stage {s} {t} {heights} {n} {m} h l = fun-ext λ c.
     split (le-or-lt m c)

@@ -10,13 +10,15 @@ ghost use Rattle.run.specs.Promises.{Starts, Columns, Ends};
 ghost use Rattle.run.specs.Inner.{ColumnsFlat, EndsFlat, GoodColumn, GoodEnd};
 use crate::records::after_column;
 use crate::records::after_end;
-use crate::records::held_cells;
 use crate::tests::check_column;
 use crate::tests::check_end;
 use record::Checked;
 use record::Handed;
 use record::Peak;
 use record::Refusal;
+// What other calls with a run record need.
+pub use records::held_cells;
+pub use tests::check_run;
 
 // A run record: rows, columns taken, threshold and whether the run has ended.
 pub struct Run {

@@ -1,4 +1,4 @@
-// The tests of Column and End before the work, on a run record and the lengths of what is offered and lent, in the
+// The tests before the work, on a run record and the lengths of what is offered and lent, in the
 // paper's order.
 ghost use mathlib.Core.Path.{_≡_};
 ghost use Rattle.record.specs.Refusals.{firstOf};
@@ -21,7 +21,7 @@ fn bad_record(run: Run, grid: usize) -> bool
 }
 
 // What every call tests first of its run record.
-fn check_run(run: Run, grid: usize) -> Checked
+pub fn check_run(run: Run, grid: usize) -> Checked
     ensures { λ r. ⌜ r ≡ firstOf (runTests run grid) ⌝ }
 {
     let checked = record::then_test(Checked::Good, record::bad_rows(run.rows), Refusal::Rows);
