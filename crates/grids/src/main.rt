@@ -1,8 +1,9 @@
 // Runs every grid of section "Grids to check by", each short cut that goes wrong, and calls that are lent one entry,
-// cell or byte too little, and prints a line for each. The lister is asked through its public calls, each lent a row of
-// records, with the second lister beside it.
+// cell or byte too little, and prints a line for each; last, two outlines. The lister is asked through its public calls,
+// each that hands out records lent a row of them, with the second lister beside it.
 mod filed; // filed.rt: run files that are written and read back
 mod limits; // limits.rt: the refusals at the limits
+mod outlined; // outlined.rt: the outline of document 02, and that of the three-row grid
 mod paper; // paper.rt: the grids of the paper
 mod short; // short.rt: rows with one entry too few
 mod shortcuts; // shortcuts.rt: the short cuts that go wrong
@@ -14,4 +15,5 @@ fn main() {
     shortcuts::run();
     short::run();
     filed::run();
+    outlined::run();
 }

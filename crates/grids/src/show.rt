@@ -8,9 +8,9 @@ use lent::answers::Call;
 use lent::answers::answer;
 use lent::first::Told;
 use lent::records::field;
-use lent::records::magnitude;
 use second::MAX;
 use second::Records;
+use second::magnitude;
 
 // The marks of a missing key height and of a missing pass, as a record holds them.
 const MISSING_KEY: i64 = -2147483648;

@@ -1,6 +1,6 @@
 // Words and numbers on standard output.
-use lent::records::magnitude;
 use libc::STDOUT_FILENO;
+use second::magnitude;
 
 // Writes the text.
 pub fn say(text: &[u8]) {

@@ -1,4 +1,3 @@
 -- What is proved apart from any one function. Assumes nothing.
-pub mod Signed  -- signed numbers of 64 bits as unsigned ones
 pub mod LentRow  -- a row of records lent to a call
 pub mod Stepped  -- what a call on a run returns, and the row after it

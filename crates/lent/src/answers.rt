@@ -90,7 +90,7 @@ pub fn narrow(rows: usize) -> u32 {
 }
 
 // The cells of a grid without its last column.
-fn without_last(rows: u32, cells: usize) -> usize {
+pub fn without_last(rows: u32, cells: usize) -> usize {
     let column = rows as usize;
     if cells < column {
         return 0;
@@ -129,7 +129,7 @@ pub fn laid(heights: &[i32], before: usize, cell: usize) -> i32 {
 }
 
 // The record of a run that has taken so many cells.
-fn taken(rows: u32, cells: usize, threshold: u32) -> Run {
+pub fn taken(rows: u32, cells: usize, threshold: u32) -> Run {
     Run::growing(rows, columns_of(rows, cells), threshold)
 }
 

@@ -73,7 +73,7 @@ pub fn write(rows: u32, heights: &[i32], held: Held, bytes: usize) -> Filed {
 }
 
 // The lesser of two numbers.
-fn least(n: usize, most: usize) -> usize
+pub fn least(n: usize, most: usize) -> usize
     ensures { λ r. ⌜ r ≤ most ⌝ }
 {
     if n > most {
@@ -93,10 +93,10 @@ fn of_written(written: Written, file: &[u8; BYTES]) -> Told {
     }
 }
 
-// Whether the bytes from `start` on are as they were.
-fn bytes_kept(file: &[u8; BYTES], start: usize) -> bool {
-    for i in start..BYTES {
-        if file[i] != 7 {
+// Whether the bytes of a room from `start` on are as they were.
+pub fn bytes_kept(room: &[u8], start: usize) -> bool {
+    for i in start..room.len() {
+        if room[i] != 7 {
             return false;
         }
     }

@@ -97,8 +97,3 @@ fn equal(a: &Records, i: usize, b: &Records, j: usize) -> bool {
     }
     true
 }
-
-// A number without its sign. The bits of a number below zero are turned round first, so that the least one has room.
-pub fn magnitude(n: i64) -> u64 {
-    if n < 0 { (!n) as u64 + 1 } else { n as u64 }
-}

@@ -22,6 +22,11 @@ pub fn higher(heights: &[i32], floor: i32) -> u64 {
     set
 }
 
+// The cells that are at or above the floor.
+pub fn at_or_above(heights: &[i32], floor: i32) -> u64 {
+    higher(heights, floor) | level(heights, floor)
+}
+
 // The cells of that height; none for the blank mark, which is no height.
 pub fn level(heights: &[i32], height: i32) -> u64 {
     if height == BLANK {

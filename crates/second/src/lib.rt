@@ -3,16 +3,21 @@
 // It is what the first lister is compared with, so its contracts say only that each call is safe and ends.
 mod ground; // ground.rt: heights, and the sets of cells that a height divides
 mod listing; // listing.rt: which peaks are listed, which are closed, and their records as numbers
+mod outlining; // outlining.rt: the outline of the listed peaks
+mod parents; // parents.rt: parents, and children in the order of their passes
 mod peaks; // peaks.rt: flats, peaks, outranking ground, key heights, islands, passes
 mod refusals; // refusals.rt: the number of the refusal that each call gives
 mod sets; // sets.rt: sets of cells
+mod text; // text.rt: words and numbers as bytes of a text
 mod touch; // touch.rt: touching cells, and what paths reach
 
 pub use listing::prominence;
 pub use refusals::column_refusal;
 pub use refusals::end_refusal;
 pub use refusals::list_refusal;
+pub use refusals::outline_refusal;
 pub use refusals::start_refusal;
+pub use text::magnitude;
 
 // The greatest number of cells of a grid that this lister takes.
 pub const MAX: usize = 64;
@@ -25,6 +30,13 @@ pub const MISSING_PASS: u32 = 4294967295;
 
 // Room for a record of each cell. A record is four numbers: cell, height, key height, pass cell.
 pub type Records = [i64; 256];
+
+// Room for the text of an outline. Of 64 cells at most 32 are peaks, no two of which touch; so there are at most 32
+// lines of a peak, as `32 peak 63 -2147483647 31`, and 31 of a pass: 1,545 bytes.
+pub const TEXT: usize = 2048;
+
+// An outline is written into the first of these bytes.
+pub type Text = [u8; TEXT];
 
 // Writes the list of a whole grid, and answers the number of records; a grid that is not supported has none.
 pub fn list(rows: usize, heights: &[i32], threshold: u32, out: &mut Records) -> usize {
@@ -60,6 +72,19 @@ pub fn rest(rows: usize, heights: &[i32], threshold: u32, out: &mut Records) -> 
     let open = summits & !listing::closed(&near, rows, heights);
     let chosen = open & listing::listed(&near, heights, summits, threshold);
     listing::write(&near, heights, summits, chosen, out)
+}
+
+// Writes the outline of a whole grid to so many levels, and answers the number of its bytes; a grid that is not
+// supported has none.
+pub fn outline(rows: usize, heights: &[i32], threshold: u32, levels: u32, out: &mut Text) -> usize {
+    if !supported(rows, heights.len()) {
+        return 0;
+    }
+    let near = touch::table(rows, heights.len());
+    let summits = peaks::peaks(&near, heights);
+    let chosen = listing::listed(&near, heights, summits, threshold);
+    let links = parents::table(&near, heights, summits);
+    outlining::write(heights, chosen, links, levels, out)
 }
 
 // Whether this lister takes a grid of so many rows and cells.

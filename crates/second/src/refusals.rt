@@ -8,6 +8,9 @@ const MAX_ROWS: u32 = 1024;
 // The greatest number of cells.
 const MAX_CELLS: u64 = 1048576;
 
+// The greatest number of levels of an outline.
+const MAX_LEVELS: u32 = 64;
+
 // The refusal of a list call: 1, 2, 3, 4, 5.
 pub fn list_refusal(rows: u32, length: usize, work: usize, table: usize, needed: usize) -> u32 {
     if rows == 0 {
@@ -23,7 +26,7 @@ pub fn list_refusal(rows: u32, length: usize, work: usize, table: usize, needed:
     if cells > MAX_CELLS {
         return 3;
     }
-    room_refusal(rows, cells / (rows as u64), work, table, needed)
+    room_refusal(rows, cells / (rows as u64), work, 5, table, needed)
 }
 
 // The refusal of a start call: 1.
@@ -48,7 +51,7 @@ pub fn column_refusal(
     table: usize,
     needed: usize,
 ) -> u32 {
-    let run = run_refusal(rows, columns, ended, grid);
+    let run = growing_refusal(rows, columns, ended, grid);
     if run != 0 {
         return run;
     }
@@ -62,7 +65,7 @@ pub fn column_refusal(
     if exceed(rows, more, grid as u64) {
         return 8;
     }
-    room_refusal(rows, more, work, table, needed)
+    room_refusal(rows, more, work, 5, table, needed)
 }
 
 // The refusal of an end call: 1, 9, 6, 4, 5.
@@ -75,15 +78,54 @@ pub fn end_refusal(
     table: usize,
     needed: usize,
 ) -> u32 {
-    let run = run_refusal(rows, columns, ended, grid);
+    let run = growing_refusal(rows, columns, ended, grid);
     if run != 0 {
         return run;
     }
-    room_refusal(rows, columns as u64, work, table, needed)
+    room_refusal(rows, columns as u64, work, 5, table, needed)
+}
+
+// The refusal of an outline call: 1, 9, 16, 14, 4, 15. The room for its text and what is needed are bytes.
+pub fn outline_refusal(
+    rows: u32,
+    columns: u32,
+    ended: bool,
+    grid: usize,
+    levels: u32,
+    work: usize,
+    room: usize,
+    needed: usize,
+) -> u32 {
+    let run = run_refusal(rows, columns, grid);
+    if run != 0 {
+        return run;
+    }
+    if !ended {
+        return 16;
+    }
+    if levels == 0 {
+        return 14;
+    }
+    if levels > MAX_LEVELS {
+        return 14;
+    }
+    room_refusal(rows, columns as u64, work, 15, room, needed)
 }
 
 // What column and end calls refuse in a run record: 1, 9, 6.
-fn run_refusal(rows: u32, columns: u32, ended: bool, grid: usize) -> u32 {
+fn growing_refusal(rows: u32, columns: u32, ended: bool, grid: usize) -> u32 {
+    let run = run_refusal(rows, columns, grid);
+    if run != 0 {
+        return run;
+    }
+    if ended {
+        return 6;
+    }
+    0
+}
+
+// What every call refuses in a run record: 1, 9.
+fn run_refusal(rows: u32, columns: u32, grid: usize) -> u32 {
     if start_refusal(rows) != 0 {
         return 1;
     }
@@ -93,19 +135,23 @@ fn run_refusal(rows: u32, columns: u32, ended: bool, grid: usize) -> u32 {
     if exceed(rows, columns as u64, MAX_CELLS) {
         return 9;
     }
-    if ended {
-        return 6;
-    }
     0
 }
 
-// The last two refusals of every call that lists: 4, 5.
-fn room_refusal(rows: u32, columns: u64, work: usize, table: usize, needed: usize) -> u32 {
+// The last two refusals of every call that lists: 4, and the number that says that the room for the list is too short.
+fn room_refusal(
+    rows: u32,
+    columns: u64,
+    work: usize,
+    short: u32,
+    room: usize,
+    needed: usize,
+) -> u32 {
     if exceed(rows, columns, work as u64 / 4) {
         return 4;
     }
-    if table < needed {
-        return 5;
+    if room < needed {
+        return short;
     }
     0
 }

@@ -7,9 +7,9 @@ use crate::random::CELLS;
 use lent::answers::Call;
 use lent::answers::answer;
 use lent::records::field;
-use lent::records::magnitude;
 use second::MAX;
 use second::Records;
+use second::magnitude;
 
 // Whether the list is the same backwards.
 pub fn agrees(rows: usize, heights: &[i32], threshold: u32) -> bool {

@@ -6,7 +6,8 @@ use lent::records::alike;
 use run::Run;
 use second::Records;
 
-// What a call is lent beside its grid: a work area of so many bytes, and a table of so many records.
+// What a call is lent beside its grid: a work area of so many bytes, and a table of so many records or, for an outline, a
+// room of so many bytes.
 pub struct Lent {
     pub bytes: usize,
     pub room: usize,
@@ -18,7 +19,7 @@ pub struct Turn {
     pub agrees: bool,
 }
 
-// What is just enough for a grid of so many cells with so many records.
+// What is just enough for a grid of so many cells with so many records, or bytes of an outline.
 pub fn enough(cells: usize, count: usize) -> Lent {
     Lent {
         bytes: bytes_for(cells),
@@ -34,12 +35,17 @@ pub fn byte_short(lent: Lent) -> Lent {
     }
 }
 
-// A table with a record too little, or none at all.
-pub fn record_short(lent: Lent) -> Lent {
+// A table or a text room with one too little, or none at all.
+pub fn room_short(lent: Lent) -> Lent {
     Lent {
         bytes: lent.bytes,
         room: one_less(lent.room),
     }
+}
+
+// No work area, and no table or text room.
+pub fn no_room() -> Lent {
+    Lent { bytes: 0, room: 0 }
 }
 
 // The bytes that so many cells need, 4 numbers of 32 bits for each.
@@ -169,7 +175,7 @@ fn tells(told: Told, out: &Records, refusal: u32, records: &Records, count: usiz
 }
 
 // "the record counts one more"; "A refusal returns the run record as it came".
-fn after_column(run: Run, refusal: u32) -> Run {
+pub fn after_column(run: Run, refusal: u32) -> Run {
     let columns = run.columns;
     if refusal != 0 {
         return run;

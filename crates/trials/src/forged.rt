@@ -1,6 +1,6 @@
 // Run records that the next call must refuse, most of which no run has given: both listers answer them alike.
-use crate::both::Lent;
 use crate::both::end_agrees;
+use crate::both::no_room;
 use crate::both::offer;
 use crate::random::CELLS;
 use run::Run;
@@ -50,8 +50,4 @@ fn close_agrees(run: Run) -> bool {
     let grid = [7i32; CELLS];
     let records = [0i64; 256];
     end_agrees(run, &grid, no_room(), &records, 0)
-}
-
-fn no_room() -> Lent {
-    Lent { bytes: 0, room: 0 }
 }

@@ -5,7 +5,7 @@ use crate::both::byte_short;
 use crate::both::end_agrees;
 use crate::both::enough;
 use crate::both::offer;
-use crate::both::record_short;
+use crate::both::room_short;
 use crate::forged::forged_agree;
 use crate::random::CELLS;
 use lent::answers::behind;
@@ -78,7 +78,7 @@ fn refusals_agree(
     if !in_turn(offer(run, offered, grid, byte_short(lent), records, count)) {
         return false;
     }
-    in_turn(offer(run, offered, grid, record_short(lent), records, count))
+    in_turn(offer(run, offered, grid, room_short(lent), records, count))
 }
 
 // Whether the listers agree in a turn.
@@ -92,6 +92,6 @@ fn ends(run: Run, rows: usize, heights: &[i32], grid: &[i32]) -> bool {
     let count = second::rest(rows, heights, run.threshold, &mut records);
     let lent = enough(heights.len(), count);
     end_agrees(run, grid, byte_short(lent), &records, count)
-        && end_agrees(run, grid, record_short(lent), &records, count)
+        && end_agrees(run, grid, room_short(lent), &records, count)
         && end_agrees(run, grid, lent, &records, count)
 }

@@ -3,7 +3,7 @@ use crate::both::Lent;
 use crate::both::byte_short;
 use crate::both::enough;
 use crate::both::list_agrees;
-use crate::both::record_short;
+use crate::both::room_short;
 use crate::random::CELLS;
 use lent::answers::narrow;
 use second::Records;
@@ -28,7 +28,7 @@ fn rooms_agree(
 ) -> bool {
     list_agrees(rows, heights, threshold, lent, records, count)
         && list_agrees(rows, heights, threshold, byte_short(lent), records, count)
-        && list_agrees(rows, heights, threshold, record_short(lent), records, count)
+        && list_agrees(rows, heights, threshold, room_short(lent), records, count)
 }
 
 // Whether they agree on rows that are refused: none, too many, and one more than there are cells. Without cells the

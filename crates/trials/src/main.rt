@@ -9,6 +9,7 @@ mod both; // both.rt: one call of both listers, accepted or refused
 mod forged; // forged.rt: run records that are refused
 mod growing; // growing.rt: both listers on runs
 mod lists; // lists.rt: both listers on grids
+mod outlines; // outlines.rt: both listers on outlines
 mod random; // random.rt: made-up grids
 mod refiled; // refiled.rt: run files written and read back
 
@@ -18,11 +19,13 @@ use libc::STDOUT_FILENO;
 // How many made-up grids each relation is tried on.
 const GRIDS: u64 = 300;
 
-// The made-up grids behind these, up to the first of the runs, and the runs up to the last: both listers are compared
-// on them, with the refusals.
+// The made-up grids behind these, up to the first of the runs, the runs up to the first of the outlines, and the outlines
+// up to the last: both listers are compared on them, with the refusals.
 const FIRST_RUN: u64 = 700;
 
-const LAST_RUN: u64 = 850;
+const FIRST_OUTLINE: u64 = 850;
+
+const LAST_OUTLINE: u64 = 1150;
 
 // What is tried.
 enum Trial {
@@ -36,6 +39,8 @@ enum Trial {
     Lists,
     // Both listers answer the calls of a run alike.
     Growing,
+    // Both listers answer outline calls alike.
+    Outlines,
 }
 
 fn main() {
@@ -53,12 +58,14 @@ fn related() {
     say(b" lists: written to a file and read back the same\n");
 }
 
-// Prints on how many made-up grids and runs both listers agree.
+// Prints on how many made-up grids, runs and outlines both listers agree.
 fn compared() {
     say_count(count(Trial::Lists, GRIDS, FIRST_RUN));
     say(b" grids: both listers agree, refusals too, and other entries stay\n");
-    say_count(count(Trial::Growing, FIRST_RUN, LAST_RUN));
+    say_count(count(Trial::Growing, FIRST_RUN, FIRST_OUTLINE));
     say(b" runs: both listers agree, refusals too, and other entries stay\n");
+    say_count(count(Trial::Outlines, FIRST_OUTLINE, LAST_OUTLINE));
+    say(b" outlines: both listers agree, refusals too, and other bytes stay\n");
 }
 
 // How many of those from `start` on and below `end` are as they must be.
@@ -92,7 +99,8 @@ fn drawn_agrees(trial: Trial, n: u64) -> bool {
     let rows = random::rows_of(n);
     let grid = random::first(&heights, random::cells_of(n));
     let column = random::first(&heights, rows);
-    agrees(trial, rows, grid, random::threshold_of(n), column)
+    let threshold = random::threshold_of(n);
+    agrees(trial, rows, grid, threshold, column, random::levels_of(n))
 }
 
 fn draw(trial: Trial, n: u64, heights: &mut [i32; CELLS]) {
@@ -102,14 +110,22 @@ fn draw(trial: Trial, n: u64, heights: &mut [i32; CELLS]) {
     }
 }
 
-// Whether a grid is as it must be; the column is there to be offered beyond it.
-fn agrees(trial: Trial, rows: usize, heights: &[i32], threshold: u32, column: &[i32]) -> bool {
+// Whether a grid is as it must be; the column is there to be offered beyond it, and the levels for its outline.
+fn agrees(
+    trial: Trial,
+    rows: usize,
+    heights: &[i32],
+    threshold: u32,
+    column: &[i32],
+    levels: u32,
+) -> bool {
     match trial {
         Trial::Batches => batches::agree(rows, heights, threshold),
         Trial::Backwards => backwards::agrees(rows, heights, threshold),
         Trial::Refiled => refiled::agrees(rows, heights, threshold),
         Trial::Lists => lists::agree(rows, heights, threshold),
         Trial::Growing => growing::agrees(rows, heights, threshold, column),
+        Trial::Outlines => outlines::agree(rows, heights, threshold, levels),
     }
 }
 

@@ -54,6 +54,11 @@ pub fn threshold_of(n: u64) -> u32 {
     }
 }
 
+// The levels of an outline, 1 to 64.
+pub fn levels_of(n: u64) -> u32 {
+    (draw(n, 43) % 64) as u32 + 1
+}
+
 // Fills in the heights: few values, many ties, blanks and the two extremes, by the kind of the grid.
 pub fn fill(n: u64, heights: &mut [i32; CELLS]) {
     for cell in 0..CELLS {

@@ -5,10 +5,10 @@ use Rattle.lent.proofs.files.bytes_kept.Statement.{statement}
 use Rattle.lent.proofs.files.bytes_kept.Tie as tie
 
 abbrev Inv-loop : tie.InvT-loop
-Inv-loop file start i₀ i = Unit {0}
+Inv-loop room start i₀ i-end i = Unit {0}
 
 abbrev μ-loop : tie.MeasureT-loop
-μ-loop file start i₀ i = 824 - i
+μ-loop room start i₀ i-end i = i-end - i
 
 pub bytes-kept-spec : {M : Type 1} → statement M
 bytes-kept-spec =
