@@ -1,27 +1,30 @@
-# make run proves and builds the program that lists a run file, and shows what it prints of a grid of three rows.
+# make run proves and builds the programs that read a run file, and shows what they print of a grid of three rows: its
+# list, then its outline.
 # make test runs everything that can fail, the proofs last; its last line is 'N passed, 0 failed'.
-# make bench compares the library with plain C++: the list, the run file, and a column call with a list.
+# make bench compares the library with plain C++: the list, the outline, the run file; a column call and an outline also
+# with a list.
 # Each says on standard error what it is doing and for how long; the times are those of two cores.
-.PHONY: test run bench layout pages tools peaks
+.PHONY: test run bench layout pages tools peaks outlines
 
 test:
-	@echo "test: layout, pages, tools, C++ tests, the program's files, then all proofs; some 17 minutes" >&2
+	@echo "test: layout, pages, tools, C++ tests, the programs' files, then all proofs; some 17 minutes" >&2
 	@$(MAKE) --no-print-directory cpp-tools
-	@$(MAKE) --no-print-directory -j3 -Oline layout pages tools cpp-test peaks
+	@$(MAKE) --no-print-directory -j3 -Oline layout pages tools cpp-test peaks outlines
 	@echo "test: proving every crate from nothing and trying every must-fail edit; some 13 minutes" >&2
 	@RT_JOBS=$${RT_JOBS:-4} python3 tests/edits/gate.py
 
 # Of jobs that run beside each other, one at a time may prove: rt writes to target/.
 PROVE = mkdir -p target && flock target/prove.lock rt
 
-# rt runs the program on crates/peaks/stdin, on any processor, and keeps what it printed. Of what rt says, the lines on
-# each crate are shown, and all of it if something is not proved.
+# rt runs each program on the file stdin of its crate, on any processor, and keeps what it printed. Of what rt says, the
+# lines on each crate are shown, and all of it if something is not proved.
 run:
 	@mkdir -p target
-	@echo "run: proving peaks and each crate below it that changed; two to three minutes the first time" >&2
-	@{ $(PROVE) check peaks 2>&1; echo $$? > target/run.status; } | tee target/run.log | sed -u -n 's/^rt: /run: /p' >&2
+	@echo "run: proving peaks, outlines and each crate below them that changed; some minutes the first time" >&2
+	@{ $(PROVE) check peaks outlines 2>&1; echo $$? > target/run.status; } \
+	    | tee target/run.log | sed -u -n 's/^rt: /run: /p' >&2
 	@test "$$(cat target/run.status)" = 0 || { cat target/run.log >&2; exit 1; }
-	@cat target/log/peaks.stdout
+	@cat target/log/peaks.stdout target/log/outlines.stdout
 
 bench: cpp-tools
 	@echo "bench: times on x86-64, counts of instructions elsewhere, with plain C++ beside; some minutes" >&2
@@ -39,5 +42,8 @@ tools:
 
 peaks: run | cpp-ready
 	@python3 tests/peaks/peaks_test.py $(CPP_RUN) target/bin/peaks
+
+outlines: run | cpp-ready
+	@python3 tests/outlines/outlines_test.py $(CPP_RUN) target/bin/outlines
 
 include cpp.mk

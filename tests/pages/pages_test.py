@@ -18,9 +18,10 @@ dump = re.findall(r"^    ([0-9a-f]{8})  ((?:[0-9a-f]{2} +)+)\|", page("docs/FORM
 assert [int(at, 16) for at, _ in dump] == list(range(0, 16 * len(dump), 16))
 assert bytes.fromhex("".join(line for _, line in dump)) == (ROOT / "crates/peaks/stdin").read_bytes()
 
-# What the README shows as printed is what the program must print.
-shown = "".join(f"    {line}\n" for line in page("crates/peaks/stdout").splitlines())
-assert shown in page("README.md")
+# What the README shows as printed is what the programs must print.
+for program in ("peaks", "outlines"):
+    shown = "".join(f"    {line}\n" for line in page(f"crates/{program}/stdout").splitlines())
+    assert shown in page("README.md"), program
 
 # crates.txt reads from the bottom up, but for the crates of the kit. Each crate has its row in the README and in
 # CONTRIBUTING.md, each row its crate.
@@ -50,6 +51,7 @@ for call, rule in (
     ("run::start", "Start"),
     ("run::column", "Column"),
     ("run::end", "End"),
+    ("outline::outline", "Outline"),
     ("runfile::write", "Write a file"),
     ("runfile::read", "Read a file"),
 ):
@@ -57,7 +59,7 @@ for call, rule in (
 
 # What a reader must believe of the definitions is short. No promise cites what stands in Inner.antt.
 believed = set(ROOT.glob("crates/relief/specs/*.antt")) - {ROOT / "crates/relief/specs/Inner.antt"}
-assert sum(len(specs.read_text().splitlines()) for specs in believed) <= 270
+assert sum(len(specs.read_text().splitlines()) for specs in believed) <= 400
 
 # Each must-fail edit says where it is refused. Each edit, claim and public function that a page names is there.
 edits = set()

@@ -1,13 +1,14 @@
 // The program that lists a run file: it reads one on standard input and lists its heights afresh at threshold 1.
 ghost use Rattle.table.specs.Inner.{Standing};
+use intake::INPUT;
+use intake::LINE;
+use intake::MOST_CELLS;
 use layout::ReadBack;
 use libc::STDIN_FILENO;
 use libc::STDOUT_FILENO;
 use record::Handed;
 use record::Peak;
-
-// "The program takes at most 65,536 bytes [..] and 4,096 cells".
-const MOST_CELLS: usize = 4096;
+use record::Refusal;
 
 fn say(text: &[u8]) {
     io::write_all(STDOUT_FILENO, text);
@@ -28,10 +29,10 @@ fn say_height(height: i32) {
     }
 }
 
-fn say_refusal(number: u32) {
-    say(b"refused ");
-    say_count(number);
-    say(b"\n");
+fn say_refusal(refusal: Refusal) {
+    let mut line = [0u8; LINE];
+    let n = intake::refusal_line(&mut line, refusal);
+    say(&line[0..n]);
 }
 
 // Writes key height, pass cell and prominence, or that they are missing.
@@ -86,26 +87,14 @@ fn say_list(rows: u32, columns: u32, heights: &[i32]) {
             say_head(rows, columns, n);
             say_records(&work, heights.len(), n as usize);
         }
-        Handed::Refused(refusal) => say_refusal(record::number(refusal)),
+        Handed::Refused(refusal) => say_refusal(refusal),
     }
 }
 
-// Whether a file's header asks for more cells than the program takes: 3, in its place in the order, behind 1.
-fn is_large(file: &[u8]) -> bool {
-    if file.len() < 24 {
-        return false;
-    }
-    let rows = words::get(file, 0);
-    if record::bad_rows(rows) {
-        return false;
-    }
-    MOST_CELLS < words::times(rows, words::get(file, 1))
-}
-
-// Reads a run file and writes the list of its heights. The stored records are read for soundness only.
+// Reads a run file and writes the list of its heights.
 fn list_file(file: &[u8]) {
-    let mut heights = [0i32; 4096];
-    match layout::take_grid(file, &mut heights, MOST_CELLS) {
+    let mut heights = [0i32; MOST_CELLS];
+    match intake::take(file, &mut heights) {
         ReadBack::Run {
             rows,
             columns,
@@ -116,21 +105,12 @@ fn list_file(file: &[u8]) {
                 say_list(rows, columns, &heights[0..cells]);
             }
         }
-        ReadBack::Refused(refusal) => say_refusal(record::number(refusal)),
+        ReadBack::Refused(refusal) => say_refusal(refusal),
     }
 }
 
 fn main() {
-    let mut buffer = [0u8; 65537];
-    let n = io::read_full(STDIN_FILENO, &mut buffer);
-    if 65536 < n {
-        say_refusal(10);
-        return;
-    }
-    let file = &buffer[0..n];
-    if is_large(file) {
-        say_refusal(3);
-        return;
-    }
-    list_file(file);
+    let mut file = [0u8; INPUT];
+    let n = io::read_full(STDIN_FILENO, &mut file);
+    list_file(&file[0..n]);
 }

@@ -13,5 +13,5 @@ pub say-list-spec : {M : Type 1} → statement M
 say-list-spec =
     tie.close
     (tie.spec (λ c. search needs) (λ c κs. search needs) (λ c. search needs) (λ c κs. search needs) (λ c. search needs)
-    (λ c. search needs) say-records-requires (λ c. search needs) (λ c κs. search needs) (λ c κs. search needs)
+    (λ c. search needs) say-records-requires (λ c. search needs) (λ c κs. search needs)
     (λ c. search needs) (λ c. search needs))
