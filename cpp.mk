@@ -5,9 +5,9 @@
 #     cpp-example       builds and runs the example, and compares what it prints
 #     cpp-suite         builds and runs the hard test of the C entry
 #     cpp-column        builds and runs the test of the column call at its limits
-#     cpp-small         library and plain C++ agree on small grids, runs and files
+#     cpp-small         library and plain C++ agree on small grids, runs, files and outlines
 #     cpp-bench         times the library against plain C++; under an emulator it is cpp-instructions
-#     cpp-instructions  instructions per cell of library and reference, counted by the emulator
+#     cpp-instructions  instructions per cell of lists and outlines, counted by the emulator
 #     cpp-tools         installs what cpp-test and cpp-bench need and the machine lacks, by apt-get: on x86-64 g++; on
 #                       another processor g++-x86-64-linux-gnu, qemu-user and g++
 #
@@ -71,28 +71,32 @@ cpp-suite: $(CPP_OUT)/suite_test
 cpp-column: $(CPP_OUT)/column_test
 	@printf 'column at its limits$(CPP_HOW): '; $(CPP_RUN) $<
 
-cpp-small: $(CPP_OUT)/bench $(CPP_OUT)/calls
+cpp-small: $(CPP_OUT)/bench $(CPP_OUT)/calls $(CPP_OUT)/outlines
 	@printf 'benchmark$(CPP_HOW): '; $(CPP_RUN) $(CPP_OUT)/bench --small
 	@printf 'benchmark of calls$(CPP_HOW): '; $(CPP_RUN) $(CPP_OUT)/calls --small
+	@printf 'benchmark of outlines$(CPP_HOW): '; $(CPP_RUN) $(CPP_OUT)/outlines --small
 
 ifeq ($(CPP_MACHINE),x86_64)
-cpp-bench: $(CPP_OUT)/bench $(CPP_OUT)/calls
+cpp-bench: $(CPP_OUT)/bench $(CPP_OUT)/calls $(CPP_OUT)/outlines
 	@$(CPP_OUT)/bench
 	@echo
 	@python3 bench/callgrind.py $(CPP_OUT)/bench
 	@echo
 	@$(CPP_OUT)/calls
+	@echo
+	@$(CPP_OUT)/outlines
 else
 cpp-bench: cpp-instructions
 endif
 
 # An emulator that was linked statically takes no plugin; the benchmark then has no counter, and says so. The processor
 # is named because newer ones move memory by instructions that the emulator counts anew for each byte.
-cpp-instructions: $(CPP_OUT)/bench $(CPP_OUT)/example $(CPP_OUT)/libcounter.so
+cpp-instructions: $(CPP_OUT)/bench $(CPP_OUT)/outlines $(CPP_OUT)/example $(CPP_OUT)/libcounter.so
 	@command -v $(CPP_EMULATOR) > /dev/null || { echo "qemu-x86_64 is missing; Debian: qemu-user" >&2; exit 1; }
 	@plugin='-plugin $(CPP_OUT)/libcounter.so'; \
 	$(CPP_EMULATE) $$plugin $(CPP_OUT)/example > $(CPP_OUT)/plugin.log 2>&1 || plugin=; \
-	$(CPP_EMULATE) -cpu qemu64 $$plugin $(CPP_OUT)/bench --work
+	$(CPP_EMULATE) -cpu qemu64 $$plugin $(CPP_OUT)/bench --work && echo && \
+	$(CPP_EMULATE) -cpu qemu64 $$plugin $(CPP_OUT)/outlines --work
 
 $(CPP_OUT)/example: examples/suite/example.cpp include/mayexoton.h $(CPP_OUT)/libsuite.a | cpp-ready
 	@$(CPP_CXX) $(CPP_FLAGS) $< $(CPP_OUT)/libsuite.a -o $@
@@ -109,9 +113,15 @@ $(CPP_OUT)/bench: bench/bench.cpp bench/grids.hpp bench/instructions.hpp bench/r
     include/mayexoton.h $(CPP_OUT)/libsuite.a | cpp-ready
 	@$(CPP_CXX) $(CPP_FLAGS) $< $(CPP_OUT)/libsuite.a -o $@
 
-$(CPP_OUT)/calls: bench/calls.cpp bench/batches.hpp bench/grids.hpp bench/meter.hpp bench/reference.hpp \
-    bench/runfile.hpp bench/times.hpp include/mayexoton.h $(CPP_OUT)/libsuite.a $(CPP_OUT)/libmeter.a | cpp-ready
+$(CPP_OUT)/calls: bench/calls.cpp bench/batches.hpp bench/grids.hpp bench/lent.hpp bench/meter.hpp \
+    bench/reference.hpp bench/runfile.hpp bench/times.hpp include/mayexoton.h $(CPP_OUT)/libsuite.a \
+    $(CPP_OUT)/libmeter.a | cpp-ready
 	@$(CPP_CXX) $(CPP_FLAGS) $< $(CPP_OUT)/libsuite.a $(CPP_OUT)/libmeter.a -o $@
+
+$(CPP_OUT)/outlines: bench/outlines.cpp bench/grids.hpp bench/instructions.hpp bench/lent.hpp bench/made_up.hpp \
+    bench/meter.hpp bench/outline.hpp bench/reference.hpp bench/times.hpp tests/suite/definitions.hpp \
+    include/mayexoton.h $(CPP_OUT)/libsuite.a $(CPP_OUT)/libmeter.a | cpp-ready
+	@$(CPP_CXX) $(CPP_FLAGS) -Itests/suite $< $(CPP_OUT)/libsuite.a $(CPP_OUT)/libmeter.a -o $@
 
 # For this machine, as the emulator is.
 $(CPP_OUT)/libcounter.so: bench/counter.cpp bench/instructions.hpp | $(CPP_OUT)

@@ -20,6 +20,7 @@
 
 #include "batches.hpp"
 #include "grids.hpp"
+#include "lent.hpp"
 #include "mayexoton.h"
 #include "meter.hpp"
 #include "reference.hpp"
@@ -35,24 +36,14 @@ namespace {
 using grids::Heights;
 using reference::Record;
 using Records = std::vector<Record>;
-using Bytes = std::vector<std::uint8_t>;
+using lent::bytes;
+using lent::Bytes;
+using lent::same;
+using lent::untouched_byte;
 
 // What no call may touch holds this.
-constexpr std::uint8_t untouched_byte = 0x5a;
 constexpr std::int32_t untouched_height = 0x5a5a5a5a;
 constexpr Record untouched_record{0x5a5a5a5au, 0x5a5a5a5a, 0x5a5a5a5a, 0x5a5a5a5au};
-
-template <typename Value> bool same(const std::vector<Value> &a, const std::vector<Value> &b) {
-    return a.size() == b.size() && (a.empty() || std::memcmp(a.data(), b.data(), a.size() * sizeof(Value)) == 0);
-}
-
-template <typename Value> std::uint8_t *bytes(std::vector<Value> &values) {
-    return reinterpret_cast<std::uint8_t *>(values.data());
-}
-
-template <typename Value> const std::uint8_t *bytes(const std::vector<Value> &values) {
-    return reinterpret_cast<const std::uint8_t *>(values.data());
-}
 
 [[noreturn]] void differ(const char *what, const char *kind, std::uint32_t rows, std::size_t cells,
                          std::int64_t library, std::int64_t plain) {

@@ -16,6 +16,11 @@ std::int64_t meter_column(std::uint32_t rows, std::uint32_t columns_taken, std::
                           std::size_t grid_length, std::uint8_t *work, std::size_t work_bytes, std::uint8_t *table,
                           std::size_t table_bytes);
 
+// Outlines an ended run. Answers how many bytes the text has; it stands at the front of its room.
+std::int64_t meter_outline(std::uint32_t rows, std::uint32_t columns, std::uint32_t threshold, std::uint32_t levels,
+                           const std::int32_t *grid, std::size_t grid_length, std::uint8_t *work,
+                           std::size_t work_bytes, std::uint8_t *text, std::size_t text_bytes);
+
 // Writes a run file. Answers how many bytes it has.
 std::int64_t meter_write(std::uint32_t rows, const std::int32_t *heights, std::size_t heights_length,
                          const std::uint8_t *records, std::size_t records_bytes, std::uint8_t *room,

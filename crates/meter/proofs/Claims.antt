@@ -1,10 +1,14 @@
--- The claims hold: the batch of the definition is one (`order-unique` of `relief`), so is what is written
--- (`write-unique` of `runfile`), and so is the answer to a file (`answers-unique` of `layout`). Assumes nothing.
+-- The claims hold: the batch of the definition is one (`order-unique` of `relief`), so is the outline (`outline-unique`
+-- of `outline`), so is what is written (`write-unique` of `runfile`), and so is the answer to a file (`answers-unique` of
+-- `layout`). Assumes nothing.
 use mathlib.Core.List.{_++_}
 use mathlib.Core.Path.{_≡_, sym, ap, _∙_}
 use lib.IntN.{ℤ}
 use lib.ListN.{drop}
 use Rattle.relief.proofs.Lists.{order-unique}
+use Rattle.outline.specs.declared.Outlined.{Outlined}
+use Rattle.outline.specs.Promises.{outlinedTold}
+use Rattle.outline.proofs.Claims as outline
 use Rattle.layout.specs.declared.Written.{Written}
 use Rattle.layout.specs.declared.ReadBack.{ReadBack}
 use Rattle.layout.specs.Layout.{heightsIn, recordsFrom, cellsIn, peaksIn}
@@ -13,11 +17,16 @@ use Rattle.layout.proofs.HandedBytes.{bytes-unique}
 use Rattle.layout.proofs.ReadAnswer.{answers-unique}
 use Rattle.runfile.proofs.Claims as runfile
 use Rattle.meter.specs.Promises.{countTold}
-use Rattle.meter.specs.Claims.{MeterColumnUnique, MeterWriteUnique, MeterReadUnique, Claims}
+use Rattle.meter.specs.Claims.{MeterColumnUnique, MeterOutlineUnique, MeterWriteUnique, MeterReadUnique, Claims}
 
 meter-column-unique : MeterColumnUnique
 meter-column-unique run column grid g h work w v table t u a b p q =
     (bytes-unique order-unique (p .hands) (q .hands), p .grid-after ∙ sym (q .grid-after))
+
+meter-outline-unique : MeterOutlineUnique
+meter-outline-unique run grid levels work w v text t u a b p q =
+    let e = outline.claims .outline-unique run grid levels work w v text t u _ _ (p .outlines) (q .outlines) in
+    (p .answered ∙ ap (λ (x : Outlined). signedTold (outlinedTold x)) (e .0) ∙ sym (q .answered), e .1, e .2)
 
 meter-write-unique : MeterWriteUnique
 meter-write-unique rows heights records room r r′ a b p q =
@@ -37,6 +46,7 @@ meter-read-unique f heights h h′ table t t′ a b p q =
 pub claims : Claims
 claims = record {
   meter-column-unique = meter-column-unique;
+  meter-outline-unique = meter-outline-unique;
   meter-write-unique = meter-write-unique;
   meter-read-unique = meter-read-unique;
 }

@@ -1,8 +1,8 @@
 -- What is claimed of the timed calls beyond their contracts.
---     MeterColumnUnique, MeterWriteUnique, MeterReadUnique    two answers that a promise allows are equal, and so is
---                                                             all that was lent, the bytes of the work area that are
---                                                             used apart
---     Claims                                                  all of these
+--     MeterColumnUnique, MeterOutlineUnique, MeterWriteUnique, MeterReadUnique
+--                two answers that a promise allows are equal, and so is all that was lent, the bytes of the work area
+--                that are used apart
+--     Claims     all of these
 -- Assumes nothing.
 use mathlib.Core.Path.{_≡_}
 use mathlib.Core.List.{List}
@@ -12,7 +12,8 @@ use lib.ListN.{length}
 use Rattle.table.specs.Promises.{Worked}
 use Rattle.run.specs.declared.Run.{Run}
 use Rattle.run.specs.Promises.{heldOf, columnTests}
-use Rattle.meter.specs.Promises.{MeterColumns, MeterWrites, MeterReads}
+use Rattle.outline.specs.Promises.{outlineTests}
+use Rattle.meter.specs.Promises.{MeterColumns, MeterOutlines, MeterWrites, MeterReads}
 
 abbrev pub MeterColumnUnique : Type 0
 MeterColumnUnique =
@@ -21,6 +22,13 @@ MeterColumnUnique =
     → MeterColumns run column grid h work v table u b
     → ((a ≡ b) × (t ≡ u) × Worked (columnTests run (length column) (length grid) (length work)) (heldOf run + run .rows)
     w v) × (g ≡ h)
+
+abbrev pub MeterOutlineUnique : Type 0
+MeterOutlineUnique =
+    (run : Run) (grid : List ℤ) (levels : ℕ) (work w v text t u : List ℕ) (a b : ℤ)
+    → MeterOutlines run grid levels work w text t a
+    → MeterOutlines run grid levels work v text u b
+    → (a ≡ b) × (t ≡ u) × Worked (outlineTests run (length grid) levels (length work)) (heldOf run) w v
 
 abbrev pub MeterWriteUnique : Type 0
 MeterWriteUnique =
@@ -38,5 +46,6 @@ MeterReadUnique =
 
 pub record Claims : Type 0 where
   pub meter-column-unique : MeterColumnUnique
+  pub meter-outline-unique : MeterOutlineUnique
   pub meter-write-unique : MeterWriteUnique
   pub meter-read-unique : MeterReadUnique

@@ -1,8 +1,8 @@
--- The promises of the timed calls: those of `run::column`, `runfile::write` and `runfile::read`, with records passed as
--- bytes in the file's layout and the answer as one signed number.
+-- The promises of the timed calls: those of `run::column`, `outline::outline`, `runfile::write` and `runfile::read`, with
+-- records passed as bytes in the file's layout and the answer as one signed number.
 --     lentRow records           the records lent as bytes: as many as fit whole
 --     countTold a               what `meter_read` tells: the record count alone
---     MeterColumns, MeterWrites, MeterReads    the promises of the three calls
+--     MeterColumns, MeterOutlines, MeterWrites, MeterReads    the promises of the four calls
 -- Assumes nothing.
 use mathlib.Core.List.{List, [], _∷_, _++_}
 use mathlib.Core.Path.{_≡_}
@@ -13,6 +13,8 @@ use Rattle.record.specs.declared.Peak.{Peak}
 use Rattle.record.specs.Refusals.{Told, granted, toldOf, firstOf}
 use Rattle.run.specs.declared.Run.{Run}
 use Rattle.run.specs.Promises.{heldOf, columnTests, columnGrid, ColumnBatch}
+use Rattle.outline.specs.declared.Outlined.{Outlined}
+use Rattle.outline.specs.Promises.{outlinedTold, Outlines}
 use Rattle.layout.specs.declared.Written.{Written}
 use Rattle.layout.specs.declared.ReadBack.{ReadBack}
 use Rattle.layout.specs.declared.ReadBack.the-variants as read-back
@@ -29,6 +31,15 @@ pub record MeterColumns (run : Run) (column grid grid′ : List ℤ) (work work�
       (ColumnBatch run column grid) work work′ table table′ answer
   pub grid-after : grid′
       ≡ columnGrid (firstOf (columnTests run (length column) (length grid) (length work))) run column grid
+
+-- ---- the outline
+
+-- `Outlines` of `outline`.
+pub record MeterOutlines (run : Run) (grid : List ℤ) (levels : ℕ) (work work′ text text′ : List ℕ) (answer : ℤ)
+    : Type 0 where
+  pub outlined : Outlined
+  pub outlines : Outlines run grid levels work work′ text text′ outlined
+  pub answered : answer ≡ signedTold (outlinedTold outlined)
 
 -- ---- the run file
 

@@ -1,18 +1,20 @@
-// Calls for the benchmark to time beside the list: a column offered to a run, and the run file written and read.
-// They are there to be measured from C++, which lends no row of records (`Peak` has no layout of C): records go as
-// bytes in the file's layout, as they do at the C entry, and the answer is one signed number. A C interface for all
-// calls will replace them.
+// Calls for the benchmark to time beside the list: a column offered to a run, an ended run outlined, and the run file
+// written and read. They are there to be measured from C++, which lends no row of records (`Peak` has no layout of C):
+// records go as bytes in the file's layout, as they do at the C entry, and the answer is one signed number. A C
+// interface for all calls will replace them.
 ghost use mathlib.Core.Path.{_≡_};
 ghost use Prim.Native.Nat.{_+_, _*_};
 ghost use Rattle.sound.specs.Sound.{FirstUnsound};
 ghost use Rattle.layout.specs.Layout.{bytesOf, allFieldsOf, peaksFrom};
 ghost use Rattle.layout.specs.Promises.{writtenTold, signedTold};
 ghost use Rattle.words.specs.Words.{over};
-ghost use Rattle.run.specs.Promises.{growingRun};
-ghost use Rattle.meter.specs.Promises.{lentRow, countTold, MeterColumns, MeterWrites, MeterReads};
+ghost use Rattle.run.specs.Promises.{growingRun, withEnd};
+ghost use Rattle.outline.specs.Promises.{outlinedTold};
+ghost use Rattle.meter.specs.Promises.{lentRow, countTold, MeterColumns, MeterOutlines, MeterWrites, MeterReads};
 ghost use Rattle.meter.specs.Inner.{Copyable};
 use layout::ReadBack;
 use layout::Written;
+use outline::Outlined;
 use run::Run;
 
 // ---- answers as numbers
@@ -23,6 +25,15 @@ fn written_number(written: Written) -> i64
     match written {
         Written::Bytes(n) => n as i64,
         Written::Refused(refusal) => layout::refused_number(refusal),
+    }
+}
+
+fn outlined_number(outlined: Outlined) -> i64
+    ensures { λ r. ⌜ r ≡ signedTold (outlinedTold outlined) ⌝ }
+{
+    match outlined {
+        Outlined::Bytes(n) => n as i64,
+        Outlined::Refused(refusal) => layout::refused_number(refusal),
     }
 }
 
@@ -67,6 +78,28 @@ pub extern "C" fn meter_column(
     let step = run::column_flat(run, column, grid, work, table.len() / 16);
     let handed = step.handed;
     layout::hand_out(table, work, cells_with(rows, columns), handed)
+}
+
+// ---- the outline
+
+// Outlines a run that has ended: `outline::outline`. The answer is the number of bytes, or minus the refusal number.
+#[no_mangle]
+pub extern "C" fn meter_outline(
+    rows: u32,
+    columns: u32,
+    threshold: u32,
+    levels: u32,
+    grid: &[i32],
+    work: &mut [u8],
+    text: &mut [u8],
+) -> i64
+    ensures { λ r. ⌜ MeterOutlines (withEnd (growingRun rows columns threshold)) (now (grid .entry)) levels
+        (now (work .entry)) (now (work .exit)) (now (text .entry)) (now (text .exit)) r ⌝ }
+{
+    let mut run = Run::growing(rows, columns, threshold);
+    run.ended = true;
+    let outlined = outline::outline(run, grid, levels, work, text);
+    outlined_number(outlined)
 }
 
 // ---- the run file
