@@ -1,8 +1,8 @@
 // Tries made-up grids and runs on which the rules fix how two answers are related, or on which both listers must answer
 // alike, and prints on how many they do.
 //
-// The lister is asked through its public calls, each lent a row of records. What differs is printed by its number, from
-// which all of a grid or run is drawn.
+// The lister is asked through its public calls, each that hands out records lent a row of them. What differs is printed
+// by its number, from which all of a grid or run is drawn.
 mod backwards; // backwards.rt: the list of a grid that is read backwards
 mod batches; // batches.rt: the batches of a run are the list
 mod both; // both.rt: one call of both listers, accepted or refused

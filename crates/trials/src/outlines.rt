@@ -15,22 +15,33 @@ use run::Run;
 use second::TEXT;
 use second::Text;
 
+// What a call is asked with beside its grid.
+struct Asked {
+    run: Run,
+    levels: u32,
+    lent: Lent,
+}
+
 // Whether they agree on every call with the grid.
 pub fn agree(rows: usize, heights: &[i32], threshold: u32, levels: u32) -> bool {
-    let run = ended(narrow(rows), heights.len(), threshold);
-    calls_agree(run, rows, heights, levels)
+    calls_agree(rows, heights, threshold, levels)
         && part_agrees(rows, heights, threshold, levels)
         && peaks_agree(rows, heights)
 }
 
 // Whether they agree where the run has taken the whole grid, with refused calls.
-fn calls_agree(run: Run, rows: usize, heights: &[i32], levels: u32) -> bool {
+fn calls_agree(rows: usize, heights: &[i32], threshold: u32, levels: u32) -> bool {
     let mut text = [0u8; TEXT];
-    let count = second::outline(rows, heights, run.threshold, levels, &mut text);
-    let lent = enough(heights.len(), count);
-    rooms_agree(run, heights, levels, lent, &text, count)
-        && levels_agree(run, heights, lent, &text, count)
-        && records_agree(run, heights, levels, lent, &text, count)
+    let count = second::outline(rows, heights, threshold, levels, &mut text);
+    let asked = Asked {
+        run: ended(narrow(rows), heights.len(), threshold),
+        levels: levels,
+        lent: enough(heights.len(), count),
+    };
+    rooms_agree(asked, heights, &text, count)
+        && levels_agree(asked, heights, &text, count)
+        && runs_agree(asked, heights, &text, count)
+        && rows_agree(asked, heights, &text, count)
 }
 
 // Whether they agree where the run has not taken the last column of the grid.
@@ -58,21 +69,15 @@ fn answered(rows: usize, heights: &[i32], levels: u32) -> bool {
     answer(rows, heights, 1, levels, &mut text) <= TEXT
 }
 
-// Whether they agree where work area and text room are just enough, and where they are a byte short.
-fn rooms_agree(
-    run: Run,
-    heights: &[i32],
-    levels: u32,
-    lent: Lent,
-    text: &Text,
-    count: usize,
-) -> bool {
+// Whether they agree where work area and text room are just enough, and where a byte is missing: 4 before 15.
+fn rooms_agree(asked: Asked, heights: &[i32], text: &Text, count: usize) -> bool {
+    let lent = asked.lent;
     let work = short_of(heights.len(), 4);
     let room = short_of(count, 15);
-    gets(0, run, heights, levels, lent, text, count)
-        && gets(room, run, heights, levels, room_short(lent), text, count)
-        && gets(work, run, heights, levels, byte_short(lent), text, count)
-        && gets(work, run, heights, levels, no_room(), text, count)
+    gets(0, asked, heights, text, count)
+        && gets(room, lending(asked, room_short(lent)), heights, text, count)
+        && gets(work, lending(asked, byte_short(lent)), heights, text, count)
+        && gets(work, lending(asked, no_room()), heights, text, count)
 }
 
 // The refusal where a byte is missing: none where none is needed.
@@ -83,96 +88,86 @@ fn short_of(needed: usize, number: u32) -> u32 {
     number
 }
 
-// Whether they agree on levels that are refused.
-fn levels_agree(run: Run, heights: &[i32], lent: Lent, text: &Text, count: usize) -> bool {
-    gets(14, run, heights, 0, lent, text, count)
-        && gets(14, run, heights, 65, lent, text, count)
-        && gets(14, run, heights, 4294967295, no_room(), text, count)
+// Whether they agree on levels that are refused: 14 before 4.
+fn levels_agree(asked: Asked, heights: &[i32], text: &Text, count: usize) -> bool {
+    let roomless = lending(asked, no_room());
+    gets(14, leveled(asked, 0), heights, text, count)
+        && gets(14, leveled(asked, 65), heights, text, count)
+        && gets(14, leveled(roomless, 4294967295), heights, text, count)
 }
 
-// Whether they agree on run records that are refused: a run that has not ended, one column too many, and bad rows.
-fn records_agree(
-    run: Run,
-    heights: &[i32],
-    levels: u32,
-    lent: Lent,
-    text: &Text,
-    count: usize,
-) -> bool {
-    open_agrees(going_on(run), heights, levels, lent, text, count)
-        && full_agrees(after_column(run, 0), heights, levels, lent, text, count)
-        && rows_agree(run, heights, levels, lent, text, count)
+// Whether they agree on a run that has not ended, and on one with a column too many: 9 before 16, 16 before 14.
+fn runs_agree(asked: Asked, heights: &[i32], text: &Text, count: usize) -> bool {
+    let run = asked.run;
+    let worse = leveled(asked, 0);
+    let long = after_column(run, 0);
+    gets(16, of_run(asked, open(run)), heights, text, count)
+        && gets(16, of_run(worse, open(run)), heights, text, count)
+        && gets(9, of_run(asked, long), heights, text, count)
+        && gets(9, of_run(worse, open(long)), heights, text, count)
 }
 
-// The record of the same run before its end.
-fn going_on(run: Run) -> Run {
-    let mut next = run;
-    next.ended = false;
-    next
-}
-
-fn open_agrees(
-    run: Run,
-    heights: &[i32],
-    levels: u32,
-    lent: Lent,
-    text: &Text,
-    count: usize,
-) -> bool {
-    gets(16, run, heights, levels, lent, text, count)
-        && gets(16, run, heights, 0, no_room(), text, count)
-}
-
-fn full_agrees(
-    run: Run,
-    heights: &[i32],
-    levels: u32,
-    lent: Lent,
-    text: &Text,
-    count: usize,
-) -> bool {
-    gets(9, run, heights, levels, lent, text, count)
-        && gets(9, going_on(run), heights, 0, no_room(), text, count)
-}
-
-fn rows_agree(
-    run: Run,
-    heights: &[i32],
-    levels: u32,
-    lent: Lent,
-    text: &Text,
-    count: usize,
-) -> bool {
-    gets(1, with_rows(run, 0), heights, levels, lent, text, count)
-        && gets(1, with_rows(run, 1025), heights, levels, lent, text, count)
+// Whether they agree on rows that are refused: 1 before 9, which the columns would get.
+fn rows_agree(asked: Asked, heights: &[i32], text: &Text, count: usize) -> bool {
+    let run = asked.run;
+    gets(1, of_run(asked, with_rows(run, 0)), heights, text, count)
+        && gets(1, of_run(asked, with_rows(run, 1025)), heights, text, count)
         && gets(
             1,
-            with_rows(going_on(run), 1025),
+            of_run(leveled(asked, 0), with_rows(open(run), 1025)),
             heights,
-            0,
-            no_room(),
             text,
             count,
         )
 }
 
-// The record of a run with other rows and more columns than a grid has.
+// Whether both listers give that number, 0 for none.
+fn gets(number: u32, asked: Asked, heights: &[i32], text: &Text, count: usize) -> bool {
+    let run = asked.run;
+    let lent = asked.lent;
+    refusal(
+        run,
+        heights,
+        asked.levels,
+        lent.bytes,
+        lent.room,
+        text,
+        count,
+    )
+        == number
+}
+
+// ---- other calls
+
+fn lending(asked: Asked, lent: Lent) -> Asked {
+    let mut next = asked;
+    next.lent = lent;
+    next
+}
+
+fn leveled(asked: Asked, levels: u32) -> Asked {
+    let mut next = asked;
+    next.levels = levels;
+    next
+}
+
+fn of_run(asked: Asked, run: Run) -> Asked {
+    let mut next = asked;
+    next.run = run;
+    next
+}
+
+// The record of a run before its end.
+fn open(run: Run) -> Run {
+    let mut next = run;
+    next.ended = false;
+    next
+}
+
+// The record of a run with other rows, and with more columns than the grid has.
 fn with_rows(run: Run, rows: u32) -> Run {
     let mut next = run;
     next.rows = rows;
     next.columns = 1025;
     next
-}
-
-// Whether both listers give that number, 0 for none.
-fn gets(
-    number: u32,
-    run: Run,
-    heights: &[i32],
-    levels: u32,
-    lent: Lent,
-    text: &Text,
-    count: usize,
-) -> bool {
-    refusal(run, heights, levels, lent.bytes, lent.room, text, count) == number
 }
