@@ -1,7 +1,6 @@
 -- Lists of entries with different cells. Where the cells are below n + 1 there are at most that many: take the entry of
 -- the cell n out, and the cells of the others are below n.
 --     Apart l                       no two entries of the list have one cell
---     member-append                 what is in two joined lists is in one of them
 --     apart-append                  two such lists, joined, where no entry of one has a cell of the other
 --     apart-few                     with cells below n there are at most n
 --     rising-apart, falling-apart   a list in reading order is such a list, and one of peaks in pass order
@@ -9,7 +8,7 @@
 use mathlib.Core.Path.{_≡_, refl, sym, ap, _∙_, subst}
 use mathlib.Core.Bool.{Bool, true, false, cond}
 use mathlib.Core.List.{List, [], _∷_, _++_}
-use mathlib.Core.Logic.{_⊎_, inl, inr}
+use mathlib.Core.Logic.{inl, inr}
 use Prim.Native.Nat.{ℕ, zero, suc, _≤_, _<_}
 use native.Mathlib.Omega.{arith}
 use lib.Dec.{eqb}
@@ -20,22 +19,18 @@ use Rattle.relief.specs.Outline.{Sooner, Falling}
 use Rattle.relief.proofs.Tests.{split}
 use Rattle.relief.proofs.Lists.{entry-unique, Sorted, rising-member}
 use Rattle.relief.proofs.Families.{sooner-asym}
+use Rattle.survey.proofs.Places.{member-cases}
 
 abbrev pub Apart : List Entry → Type 0
 Apart = Sorted (λ d e. d .cell ≡ e .cell → ⊥)
 
 -- ---- joined lists
 
-pub member-append : (l m : List Entry) (e : Entry) → Member e (l ++ m) → Member e l ⊎ Member e m
-member-append [] m e h = inr h
-member-append (x ∷ l) m e (inl q) = inl (inl q)
-member-append (x ∷ l) m e (inr h) = split (member-append l m e h) (λ i. inl (inr i)) inr
-
 pub apart-append : (l m : List Entry) → Apart l → Apart m
     → ((d e : Entry) → Member d l → Member e m → d .cell ≡ e .cell → ⊥) → Apart (l ++ m)
 apart-append [] m a b f = b
 apart-append (x ∷ l) m a b f = (
-  (λ e h. split (member-append l m e h) (a .0 e) (f x e (inl refl))),
+  (λ e h. split (member-cases l m e h) (a .0 e) (f x e (inl refl))),
   apart-append l m (a .1) b (λ d e h. f d e (inr h)),
 )
 

@@ -28,7 +28,8 @@ use Rattle.relief.specs.Outline.{Parent, Family}
 use Rattle.relief.proofs.Tests.{split}
 use Rattle.relief.proofs.Flats.{Terrain, land-below}
 use Rattle.relief.proofs.Parents.{parent-unique, parent-none}
-use Rattle.outline.proofs.Apart.{Apart, member-append, apart-append, apart-few, rising-apart, falling-apart}
+use Rattle.survey.proofs.Places.{member-cases}
+use Rattle.outline.proofs.Apart.{Apart, apart-append, apart-few, rising-apart, falling-apart}
 
 abbrev pub offspring : (ℕ → List Entry) → List Entry → List Entry
 offspring children [] = []
@@ -56,7 +57,7 @@ pub offspring-member : (children : ℕ → List Entry) (l : List Entry) (e : Ent
 offspring-member children [] e m = absurd m
 offspring-member children (x ∷ l) e m =
     let ih = offspring-member children l e in
-    split (member-append (children (x .cell)) (offspring children l) e m)
+    split (member-cases (children (x .cell)) (offspring children l) e m)
     (λ h. (x, inl refl, h)) (λ h. let r = ih h in (r .0, inr (r .1), r .2))
 
 -- ---- peaks
@@ -124,7 +125,7 @@ module _ {touch : ℕ → ℕ → Type 0} {touch? : ℕ → ℕ → Bool} {level
     layers-member (suc left) d l h e m =
         let next = offspring (family .children) l in
         let ih = layers-member left (suc d) next (offspring-layer d l h) e in
-        split (member-append l (layers (family .children) left next) e m)
+        split (member-cases l (layers (family .children) left next) e m)
         (λ i. (d, omega arith, h .member e i))
         (λ i. let (d′, more, descendant) = ih i in (d′, omega arith, descendant))
 
