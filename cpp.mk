@@ -23,6 +23,7 @@ CPP_LIBRARY ?= target/staticlib/libsuite.a
 CPP_METER ?= target/staticlib/libmeter.a
 CPP_OUT := target/cpp
 CPP_FLAGS := -std=c++17 -O2 -Wall -Wextra -Wpedantic -Iinclude
+CPP_REFERENCE := bench/places.hpp bench/reference.hpp bench/sweep.hpp
 
 # What depends on a tool is worked out when it is used, so that `make cpp-tools cpp-test` finds what was installed.
 CPP_EMULATOR = $(shell command -v qemu-x86_64 || command -v qemu-x86_64-static || echo qemu-x86_64)
@@ -109,17 +110,17 @@ $(CPP_OUT)/column_test: tests/suite/column_test.cpp tests/suite/room.hpp bench/m
     $(CPP_OUT)/libmeter.a | cpp-ready
 	@$(CPP_CXX) $(CPP_FLAGS) -Ibench $(CPP_SANITIZE) $< $(CPP_OUT)/libmeter.a -o $@
 
-$(CPP_OUT)/bench: bench/bench.cpp bench/grids.hpp bench/instructions.hpp bench/reference.hpp bench/times.hpp \
+$(CPP_OUT)/bench: bench/bench.cpp bench/grids.hpp bench/instructions.hpp $(CPP_REFERENCE) bench/times.hpp \
     include/mayexoton.h $(CPP_OUT)/libsuite.a | cpp-ready
 	@$(CPP_CXX) $(CPP_FLAGS) $< $(CPP_OUT)/libsuite.a -o $@
 
 $(CPP_OUT)/calls: bench/calls.cpp bench/batches.hpp bench/grids.hpp bench/lent.hpp bench/meter.hpp \
-    bench/reference.hpp bench/runfile.hpp bench/times.hpp include/mayexoton.h $(CPP_OUT)/libsuite.a \
+    $(CPP_REFERENCE) bench/runfile.hpp bench/times.hpp include/mayexoton.h $(CPP_OUT)/libsuite.a \
     $(CPP_OUT)/libmeter.a | cpp-ready
 	@$(CPP_CXX) $(CPP_FLAGS) $< $(CPP_OUT)/libsuite.a $(CPP_OUT)/libmeter.a -o $@
 
 $(CPP_OUT)/outlines: bench/outlines.cpp bench/grids.hpp bench/instructions.hpp bench/lent.hpp bench/made_up.hpp \
-    bench/meter.hpp bench/outline.hpp bench/reference.hpp bench/times.hpp tests/suite/definitions.hpp \
+    bench/meter.hpp bench/outline.hpp $(CPP_REFERENCE) bench/times.hpp tests/suite/definitions.hpp \
     include/mayexoton.h $(CPP_OUT)/libsuite.a $(CPP_OUT)/libmeter.a | cpp-ready
 	@$(CPP_CXX) $(CPP_FLAGS) -Itests/suite $< $(CPP_OUT)/libsuite.a $(CPP_OUT)/libmeter.a -o $@
 

@@ -1,12 +1,14 @@
-// What a column call hands out, in plain C++: the peaks of a run that are closed, by the sweep of reference.hpp.
+// What a column call hands out, in plain C++: the listed peaks of reference.hpp that are closed.
 //
-// It is not timed. Beside its pass a region keeps whether it reaches the last column: when a worse root meets
-// outranking ground, its region above the pass is the peak's island.
+// It is not timed. Whether an island reaches the last column is found by a second sweep of the plainest kind, in which
+// a region keeps whether it does. When a cell of a lower level touches a region for the first time, the region is the
+// island that its root has if it loses at this level.
 #pragma once
 
 #include <algorithm>
 #include <cstddef>
 #include <cstdint>
+#include <limits>
 #include <vector>
 
 #include "reference.hpp"
@@ -18,41 +20,35 @@ using reference::Record;
 class Sweep {
 public:
     Sweep(std::uint32_t rows, const std::int32_t *heights, std::size_t cells)
-        : rows(rows), cells(cells), heights(heights), parent(cells, reference::unswept), pass(cells), reaches(cells),
+        : rows(rows), cells(cells), heights(heights), parent(cells, unswept), level(cells), reaches(cells),
           island_reaches(cells) {
         std::vector<std::uint32_t> work(reference::work_per_cell * cells);
         const std::size_t count = reference::rank(heights, cells, work.data());
         for (std::size_t i = 0; i < count; ++i) take(work[i]);
     }
 
-    // The closed peaks of the wanted prominence, in reading order.
+    // The closed peaks of the wanted prominence, in reading order, with the passes that they have in this grid.
     std::vector<Record> closed(std::uint32_t threshold) const {
-        std::vector<Record> records;
-        for (std::uint32_t cell = 0; cell < cells; ++cell) {
-            if (parent[cell] == reference::unswept) continue;
-            const std::int32_t height = heights[cell];
-            if (parent[cell] == cell) {
-                if (!reaches[cell]) records.push_back({cell, height, reference::no_key_height, reference::no_pass});
-                continue;
-            }
-            const std::int32_t key = heights[pass[cell]];
-            const std::int64_t prominence = std::int64_t{height} - key;
-            if (prominence == 0 || prominence < threshold || island_reaches[cell]) continue;
-            records.push_back({cell, height, key, pass[cell]});
-        }
+        std::vector<Record> records = reference::list(rows, heights, cells, threshold);
+        const auto open = [&](const Record &record) {
+            return record.pass == reference::no_pass ? reaches[record.cell] : island_reaches[record.cell];
+        };
+        records.erase(std::remove_if(records.begin(), records.end(), open), records.end());
         return records;
     }
 
 private:
+    static constexpr std::uint32_t unswept = std::numeric_limits<std::uint32_t>::max();
+
     void take(std::uint32_t cell) {
         parent[cell] = cell;
-        pass[cell] = cell;
+        level[cell] = heights[cell];
         reaches[cell] = cell + rows >= cells;
         std::uint32_t root = cell;
         const std::uint32_t column = cell / rows, row = cell % rows;
         for (std::uint32_t c = column == 0 ? 0 : column - 1; c <= column + 1 && c * rows < cells; ++c) {
             for (std::uint32_t r = row == 0 ? 0 : row - 1; r <= row + 1 && r < rows; ++r) {
-                if (parent[c * rows + r] != reference::unswept) root = join(cell, root, c * rows + r);
+                if (parent[c * rows + r] != unswept) root = join(cell, root, c * rows + r);
             }
         }
     }
@@ -60,8 +56,8 @@ private:
     std::uint32_t join(std::uint32_t cell, std::uint32_t root, std::uint32_t neighbour) {
         const std::uint32_t other = root_of(neighbour);
         if (other == root) return root;
-        if (heights[pass[other]] > heights[cell]) { // so far the region was above this level
-            pass[other] = cell;
+        if (level[other] > heights[cell]) { // so far the region was above this level
+            level[other] = heights[cell];
             island_reaches[other] = reaches[other];
         }
         const bool wins = heights[other] > heights[root] || (heights[other] == heights[root] && other < root);
@@ -80,9 +76,9 @@ private:
     std::size_t cells;
     const std::int32_t *heights;
     std::vector<std::uint32_t> parent;
-    std::vector<std::uint32_t> pass;
+    std::vector<std::int32_t> level;          // of a root: the lowest height that has touched its region
     std::vector<std::uint8_t> reaches;        // of a root: whether its region has a cell in the last column
-    std::vector<std::uint8_t> island_reaches; // the same of what is above its pass
+    std::vector<std::uint8_t> island_reaches; // the same of what is above that level
 };
 
 // The peaks that the column behind the first `columns` hands out: those closed with it, less those closed before it.

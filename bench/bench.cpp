@@ -162,15 +162,15 @@ void print_sizes() {
 
 int print_costs(const char *unit, Cost (*cost)(const grids::Kind &, std::uint32_t)) {
     std::printf("%s per cell; square grids, threshold 1\n\n", unit);
-    std::printf("%-12s %9s |%26s |%26s | %s\n", "", "", "library", "reference", "library / reference");
-    std::printf("%-12s %9s |", "kind", "peaks");
+    std::printf("%-13s %9s |%26s |%26s | %s\n", "", "", "library", "reference", "library / reference");
+    std::printf("%-13s %9s |", "kind", "peaks");
     print_sizes();
     std::printf("|");
     print_sizes();
     std::printf("| at %" PRIu32 "\n", sizes.back());
     for (const grids::Kind &kind : grids::kinds) {
         const Costs costs = costs_of(kind, cost);
-        std::printf("%-12s %9" PRId64 " |", kind.name, costs.back().peaks);
+        std::printf("%-13s %9" PRId64 " |", kind.name, costs.back().peaks);
         for (const Cost &each : costs) std::printf(" %7.2f ", each.library);
         std::printf("|");
         for (const Cost &each : costs) std::printf(" %7.2f ", each.reference);
@@ -183,12 +183,12 @@ int print_costs(const char *unit, Cost (*cost)(const grids::Kind &, std::uint32_
 int print_emulated_ratios() {
     std::printf("EMULATED library / reference: time under the emulator, which stands for work done and not for time\n"
                 "square grids, threshold 1\n\n");
-    std::printf("%-12s %9s |", "kind", "peaks");
+    std::printf("%-13s %9s |", "kind", "peaks");
     print_sizes();
     std::printf("\n");
     for (const grids::Kind &kind : grids::kinds) {
         const Costs costs = costs_of(kind, cost_in_time);
-        std::printf("%-12s %9" PRId64 " |", kind.name, costs.back().peaks);
+        std::printf("%-13s %9" PRId64 " |", kind.name, costs.back().peaks);
         for (const Cost &each : costs) std::printf(" %7.2f ", each.ratio());
         std::printf("\n");
         std::fflush(stdout);

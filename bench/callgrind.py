@@ -9,7 +9,7 @@ import shutil
 import subprocess
 import sys
 
-KINDS = 6
+KINDS = 8
 
 
 def run(program, kind, who, turns):
@@ -32,11 +32,11 @@ def main(program):
         print("instructions: not counted, valgrind is missing")
         return
     print("x86-64 instructions of a list per cell, counted by callgrind at 256 x 256 cells\n")
-    print(f"{'kind':12} | library | reference | library / reference")
+    print(f"{'kind':13} | library | reference | library / reference")
     for kind in range(KINDS):
         name, library = per_cell(program, kind, "library")
         _, reference = per_cell(program, kind, "reference")
-        print(f"{name:12} | {library:7.0f} | {reference:9.0f} | {library / reference:.2f}", flush=True)
+        print(f"{name:13} | {library:7.0f} | {reference:9.0f} | {library / reference:.2f}", flush=True)
 
 
 if __name__ == "__main__":

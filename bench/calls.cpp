@@ -54,10 +54,7 @@ constexpr Record untouched_record{0x5a5a5a5au, 0x5a5a5a5a, 0x5a5a5a5a, 0x5a5a5a5
 }
 
 Records list_of(std::uint32_t rows, const Heights &heights, std::uint32_t threshold) {
-    std::vector<std::uint32_t> work(reference::work_per_cell * heights.size());
-    Records records(heights.size());
-    records.resize(reference::list(rows, heights.data(), heights.size(), threshold, work.data(), records.data()));
-    return records;
+    return reference::list(rows, heights.data(), heights.size(), threshold);
 }
 
 // Whether a call has answered just these records and left the rest of its table alone.
@@ -136,13 +133,13 @@ void print_columns() {
     std::printf("one column call, the last of %" PRIu32 " x %" PRIu32 " cells, and one list of the same grid\n"
                 "milliseconds of processor time, medians; threshold 1\n\n",
                 rows, columns);
-    std::printf("%-12s %10s | %8s %8s | %s\n", "kind", "handed out", "column", "list",
+    std::printf("%-13s %10s | %8s %8s | %s\n", "kind", "handed out", "column", "list",
                 "column / list, wanted: at most 2.5");
     for (const grids::Kind &kind : grids::kinds) {
         const Heights heights = kind.make(rows, columns);
         ColumnContest contest(kind.name, rows, heights, 1);
         const times::Medians medians = time_column(contest, 9);
-        std::printf("%-12s %10" PRId64 " | %8.1f %8.1f | %.2f\n", kind.name, contest.handed_out(), medians.first / 1e6,
+        std::printf("%-13s %10" PRId64 " | %8.1f %8.1f | %.2f\n", kind.name, contest.handed_out(), medians.first / 1e6,
                     medians.second / 1e6, medians.ratio());
         std::fflush(stdout);
     }
@@ -166,14 +163,14 @@ double run_seconds(const std::array<double, run_lengths.size()> &milliseconds) {
 void print_runs() {
     constexpr std::uint32_t rows = 1024;
     std::printf("\none column call along a run of %" PRIu32 " rows, by the columns it makes\n"
-                "milliseconds of processor time, medians; threshold 1\n\n%-12s |",
+                "milliseconds of processor time, medians; threshold 1\n\n%-13s |",
                 rows, "kind");
     for (const std::uint32_t length : run_lengths) std::printf(" %7" PRIu32, length);
     std::printf(" | all %" PRIu32 " calls, by these\n", run_lengths.back());
     for (const grids::Kind &kind : grids::kinds) {
         const Heights whole = kind.make(rows, run_lengths.back());
         std::array<double, run_lengths.size()> milliseconds{};
-        std::printf("%-12s |", kind.name);
+        std::printf("%-13s |", kind.name);
         for (std::size_t i = 0; i < run_lengths.size(); ++i) {
             const Heights heights(whole.begin(), whole.begin() + std::ptrdiff_t{rows} * run_lengths[i]);
             ColumnContest contest(kind.name, rows, heights, 1);
@@ -275,8 +272,8 @@ void print_files() {
     std::printf("\nthe run file of %" PRIu32 " x %" PRIu32 " cells with its list\n"
                 "milliseconds of processor time, medians; speed wanted: at least 0.5 of plain C++\n\n",
                 rows, columns);
-    std::printf("%-12s %8s %8s | %26s | %26s\n", "", "", "", "writing", "reading");
-    std::printf("%-12s %8s %8s | %8s %8s %8s | %8s %8s %8s\n", "kind", "peaks", "bytes", "library", "C++", "speed",
+    std::printf("%-13s %8s %8s | %26s | %26s\n", "", "", "", "writing", "reading");
+    std::printf("%-13s %8s %8s | %8s %8s %8s | %8s %8s %8s\n", "kind", "peaks", "bytes", "library", "C++", "speed",
                 "library", "C++", "speed");
     for (const grids::Kind &kind : grids::kinds) {
         const Heights heights = kind.make(rows, columns);
@@ -291,7 +288,7 @@ void print_files() {
             times::in_turn(turns, [&] { contest.read_library(file, length); },
                            [&] { contest.read_plain(file, length); }, [&] { contest.require_read(); });
         contest.require_return();
-        std::printf("%-12s %8zu %8zu | %8.2f %8.2f %8.2f | %8.2f %8.2f %8.2f\n", kind.name, records.size(), length,
+        std::printf("%-13s %8zu %8zu | %8.2f %8.2f %8.2f | %8.2f %8.2f %8.2f\n", kind.name, records.size(), length,
                     writing.first / 1e6, writing.second / 1e6, 1 / writing.ratio(), reading.first / 1e6,
                     reading.second / 1e6, 1 / reading.ratio());
         std::fflush(stdout);

@@ -1,4 +1,4 @@
-// Grids to measure by: six kinds, at any size, the same on every machine.
+// Grids to measure by: eight kinds, at any size, the same on every machine.
 //
 // Heights stand in reading order, column by column. Only whole-number arithmetic is used, so that no library and no
 // rounding mode can make two machines measure different grids.
@@ -88,30 +88,59 @@ inline Heights all_equal(std::uint32_t rows, std::uint32_t columns) {
     return Heights(std::size_t{rows} * columns, 12345);
 }
 
-// The worst case for a forest whose roots must be the best cells. A path winds through every other column; along it
-// stand peaks, each higher than the last, and between them saddles, each lower than the last. So the first two peaks
-// join first, and each next one takes the whole region before it: a chain of a quarter of all cells, each peak hung
-// under the next. The walls between are the lowest, in no order, and look for roots from all along the chain.
-// Without shortening of paths 256 x 256 cells take some thousand times as long as with it.
-inline Heights staircase(std::uint32_t rows, std::uint32_t columns) {
+// A path that winds through every other column, from the first cell on, with the heights that its cells are to have by
+// their place on it and the number of places. The walls between are the lowest, in no order.
+template <typename HeightAt> Heights winding(std::uint32_t rows, std::uint32_t columns, HeightAt height_at) {
     Random random(3);
     const std::size_t cells = std::size_t{rows} * columns;
     Heights heights(cells);
     for (std::int32_t &height : heights) { // all walls at first
         height = static_cast<std::int32_t>(-(1 << 21) - random.below(4 * cells));
     }
-    std::int32_t step = 0;
-    const auto walk_on = [&](std::uint32_t column, std::uint32_t row) {
-        const std::int32_t peak = step / 2 + 1;
-        heights[std::size_t{column} * rows + row] = step % 2 == 0 ? peak : -peak;
-        ++step;
-    };
+    std::vector<std::size_t> path;
     for (std::uint32_t column = 0; column < columns; column += 2) {
         const bool forward = column % 4 == 0;
-        for (std::uint32_t i = 0; i < rows; ++i) walk_on(column, forward ? i : rows - 1 - i);
-        if (column + 2 < columns) walk_on(column + 1, forward ? rows - 1 : 0); // the door to the next
+        for (std::uint32_t i = 0; i < rows; ++i) {
+            path.push_back(std::size_t{column} * rows + (forward ? i : rows - 1 - i));
+        }
+        const std::uint32_t door = forward ? rows - 1 : 0; // to the next
+        if (column + 2 < columns) path.push_back(std::size_t{column + 1} * rows + door);
+    }
+    const auto places = static_cast<std::int32_t>(path.size());
+    for (std::int32_t place = 0; place < places; ++place) {
+        heights[path[static_cast<std::size_t>(place)]] = height_at(place, places);
     }
     return heights;
+}
+
+// The worst case for a forest whose roots must be the best cells. Along the path stand peaks, each higher than the
+// last, and between them saddles, each lower than the last. So the first two peaks join first, and each next one takes
+// the whole region before it: a chain of a quarter of all cells, each peak hung under the next. The walls look for
+// roots from all along the chain. Without shortening of paths 256 x 256 cells take some thousand times as long.
+inline Heights staircase(std::uint32_t rows, std::uint32_t columns) {
+    return winding(rows, columns, [](std::int32_t place, std::int32_t) {
+        const std::int32_t peak = place / 2 + 1;
+        return place % 2 == 0 ? peak : -peak;
+    });
+}
+
+// The worst case for passes, which must lead over. Along the path stand peaks, and between them shelves of one height,
+// so that all is settled in one level. The first peak is the highest, and the others rise. So of the peaks beside a
+// shelf the later is the better, and shelves have nothing to do with each other until it shows that one of them leads
+// to the highest. Where the path goes against the reading order, the last shelf of a column shows it for all there.
+inline std::int32_t height_on_chain(std::int32_t place) {
+    if (place == 0) return 1 << 21;
+    return place % 2 == 0 ? place / 2 : 0;
+}
+
+inline Heights rising_chain(std::uint32_t rows, std::uint32_t columns) {
+    return winding(rows, columns, [](std::int32_t place, std::int32_t) { return height_on_chain(place); });
+}
+
+// The same the other way round: the highest peak ends the path, and the last shelf of all shows it for all.
+inline Heights falling_chain(std::uint32_t rows, std::uint32_t columns) {
+    return winding(rows, columns,
+                   [](std::int32_t place, std::int32_t places) { return height_on_chain(places - 1 - place); });
 }
 
 // Eight heights only: many flats, of many shapes, and many equal summits.
@@ -131,12 +160,14 @@ struct Kind {
     Heights (*make)(std::uint32_t rows, std::uint32_t columns);
 };
 
-constexpr std::array<Kind, 6> kinds{{
+constexpr std::array<Kind, 8> kinds{{
     {"noise", noise},
     {"GCxGC-like", chromatogram},
     {"all equal", all_equal},
     {"staircase", staircase},
     {"few heights", few_heights},
+    {"rising chain", rising_chain},
+    {"falling chain", falling_chain},
     {"all blank", all_blank},
 }};
 

@@ -35,10 +35,7 @@ public:
         level = forest.heights[cell];
     }
 
-    // A root that is no higher than the level is no peak.
-    void lost(std::uint32_t root) {
-        if (forest.heights[root] > level) up[root] = std::exchange(last, root);
-    }
+    void lost(std::uint32_t top) { up[top] = std::exchange(last, top); }
 
     // All cells of the level are swept.
     void settle() {
@@ -70,9 +67,8 @@ struct Links {
 inline std::uint32_t link_peaks(const Forest &forest, std::size_t cells, std::uint32_t threshold, const Links &links) {
     std::uint32_t top = no_cell;
     for (auto cell = static_cast<std::uint32_t>(cells); cell-- > 0;) {
-        const std::uint32_t parent = forest.parent[cell];
-        if (parent == unswept) continue;
-        if (parent == cell) {
+        if (forest.heights[cell] == blank) continue;
+        if (forest.parent[cell] == cell) {
             links.next[cell] = std::exchange(top, cell);
         } else {
             if (!is_listed(forest, cell, threshold)) continue;

@@ -154,15 +154,15 @@ template <typename Value> void print_each(const std::array<Cost, sizes.size()> &
 int print_costs(const char *unit, Costing cost) {
     std::printf("%s per cell; square grids, threshold 1, %" PRIu32 " levels; outline / list wanted: at most 1.6\n\n",
                 unit, most_levels);
-    std::printf("%-11s %7s %8s |%21s |%21s |%21s |%21s |\n", "", "", "", "outline", "list", "outline / list",
+    std::printf("%-13s %7s %8s |%21s |%21s |%21s |%21s |\n", "", "", "", "outline", "list", "outline / list",
                 "outline in plain C++");
-    std::printf("%-11s %7s %8s |", "kind", "peaks", "bytes");
+    std::printf("%-13s %7s %8s |", "kind", "peaks", "bytes");
     for (int i = 0; i < 4; ++i) print_sizes();
     std::printf("\n");
     for (const grids::Kind &kind : grids::kinds) {
         std::array<Cost, sizes.size()> costs{};
         std::transform(sizes.begin(), sizes.end(), costs.begin(), [&](std::uint32_t size) { return cost(kind, size); });
-        std::printf("%-11s %7" PRId64 " %8zu |", kind.name, costs.back().peaks, costs.back().text_bytes);
+        std::printf("%-13s %7" PRId64 " %8zu |", kind.name, costs.back().peaks, costs.back().text_bytes);
         print_each(costs, " %6.1f", [](const Cost &each) { return each.outline; });
         print_each(costs, " %6.1f", [](const Cost &each) { return each.list; });
         print_each(costs, " %6.2f", [](const Cost &each) { return each.ratio(); });

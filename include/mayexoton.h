@@ -4,7 +4,9 @@
  * A chromatogram is a grid of heights. A peak is a flat (a connected set of cells of one height) that no higher cell
  * touches; cells touch sidewise and at corners. Its key height is the greatest height at which it is joined to ground
  * that outranks it: a higher cell, or an equally high peak whose cell is earlier. Height less key height is its
- * prominence. docs/RULES.md has the rules word by word, docs/PROMISES.md what is proved.
+ * prominence. Its island is what it reaches above the key height, and its pass cell the earliest cell of the key height
+ * that touches the island and from which cells at or above the key height, outside the island, lead to ground that
+ * outranks it. docs/RULES.md has the rules word by word, docs/PROMISES.md what is proved.
  *
  * C99 and C++, on x86-64 Linux. `rt staticlib suite` writes the archive to link:
  *

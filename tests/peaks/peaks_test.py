@@ -25,6 +25,15 @@ peaks.prints(run(2, [BLANK] * 4), "rows 2 columns 2 peaks 0")
 peaks.prints(run(2, [8, 1, 1, 7]), "rows 2 columns 2 peaks 1", "0 8 - - -")
 peaks.prints(run(1, [5, 3, 5]), "rows 1 columns 3 peaks 2", "0 5 - - -", "2 5 3 1 2")
 peaks.prints(run(1, [5, BLANK, 6]), "rows 1 columns 3 peaks 2", "0 5 - - -", "2 6 - - -")
+peaks.prints(run(1, [4, 6, 4, 9]), "rows 1 columns 4 peaks 2", "1 6 4 2 2", "3 9 - - -")
+peaks.prints(run(1, [4, 5, 4, 6, 4, 9]), "rows 1 columns 6 peaks 3", "1 5 4 2 1", "3 6 4 4 2", "5 9 - - -")
+peaks.prints(
+    run(4, [BLANK, 2, BLANK, BLANK, 1, BLANK, 1, 3, 3, BLANK, BLANK, BLANK]),
+    "rows 4 columns 3 peaks 3",
+    "1 2 1 4 1",
+    "7 3 - - -",
+    "8 3 1 4 2",
+)
 peaks.prints(
     run(1, [HIGHEST, LOWEST, HIGHEST]),
     "rows 1 columns 3 peaks 2",

@@ -1,5 +1,5 @@
-// A test of the column call at its limits: what it refuses, in the order of document 01's table, and that it takes a
-// column with which the run has exactly 1,048,576 cells.
+// A test of the column call at its limits: what it refuses, in the order of document 01's table, that it takes a column
+// with which the run has exactly 1,048,576 cells, and that a pass which moves is handed out once, as it was then.
 //
 //     column_test
 //
@@ -68,39 +68,41 @@ void put(std::uint8_t *bytes, std::uint32_t number) {
     for (int i = 0; i < 4; ++i) bytes[i] = static_cast<std::uint8_t>(number >> (8 * i));
 }
 
-// A peak without a key height.
-std::vector<std::uint8_t> record_of(std::size_t cell, std::int32_t height) {
+// Without the last two the peak has no key height.
+std::vector<std::uint8_t> record_of(std::size_t cell, std::int32_t height, std::int32_t key_height = blank,
+                                    std::uint32_t pass = 0xffffffffu) {
     std::vector<std::uint8_t> bytes(16);
     put(&bytes[0], static_cast<std::uint32_t>(cell));
     put(&bytes[4], static_cast<std::uint32_t>(height));
-    put(&bytes[8], static_cast<std::uint32_t>(blank));
-    put(&bytes[12], 0xffffffffu);
+    put(&bytes[8], static_cast<std::uint32_t>(key_height));
+    put(&bytes[12], pass);
     return bytes;
 }
 
-// ---- a grid whose batch is known by construction
+// ---- a column whose batch is known
+
+struct Known {
+    Heights taken;
+    Heights offered;
+    std::vector<std::uint8_t> batch;
+
+    std::size_t records() const { return batch.size() / 16; }
+};
 
 // All cells of the first columns are 0, one flat that the blank column behind it closed long ago. Of the last column
 // taken every other cell is blank and the others are peaks, each alone: the blank column that is offered closes them.
-class Known {
-public:
-    Known(std::uint32_t rows, std::uint32_t columns) : offered(rows, blank), taken(std::size_t{rows} * columns, 0) {
-        const std::size_t last = std::size_t{rows} * (columns - 1);
-        std::fill(taken.begin() + static_cast<std::ptrdiff_t>(last - rows), taken.end(), blank);
-        for (std::size_t row = 0; row < rows; row += 2) {
-            const auto height = static_cast<std::int32_t>(row) - 500;
-            taken[last + row] = height;
-            const std::vector<std::uint8_t> record = record_of(last + row, height);
-            batch.insert(batch.end(), record.begin(), record.end());
-        }
+Known lone_cells(std::uint32_t rows, std::uint32_t columns) {
+    Known known{Heights(std::size_t{rows} * columns, 0), Heights(rows, blank), {}};
+    const std::size_t last = std::size_t{rows} * (columns - 1);
+    std::fill(known.taken.begin() + static_cast<std::ptrdiff_t>(last - rows), known.taken.end(), blank);
+    for (std::size_t row = 0; row < rows; row += 2) {
+        const auto height = static_cast<std::int32_t>(row) - 500;
+        known.taken[last + row] = height;
+        const std::vector<std::uint8_t> record = record_of(last + row, height);
+        known.batch.insert(known.batch.end(), record.begin(), record.end());
     }
-
-    std::size_t records() const { return batch.size() / 16; }
-
-    Heights offered;
-    Heights taken;
-    std::vector<std::uint8_t> batch;
-};
+    return known;
+}
 
 // ---- lending and looking
 
@@ -200,7 +202,7 @@ Call enough(const Known &known, std::uint32_t rows, std::uint32_t columns) {
 
 // What just fits is accepted. With one byte, one cell or one record less it is refused, as it is with more to offer.
 void try_around(Columns &columns, std::uint32_t rows, std::uint32_t taken) {
-    const Known known(rows, taken);
+    const Known known = lone_cells(rows, taken);
     const Call just = enough(known, rows, taken);
     for (const Place place : places) {
         columns.check(just, known, place);
@@ -225,12 +227,29 @@ void try_around(Columns &columns, std::uint32_t rows, std::uint32_t taken) {
 
 // A run of 1,048,576 cells is full: one column more gets 3, whatever room there is.
 void try_full(Columns &columns) {
-    const Known known(most_rows, most_rows);
+    const Known known = lone_cells(most_rows, most_rows);
     Call call = enough(known, most_rows, most_rows);
     call.work = 16 * cell_limit;
     columns.check(call, known, Place::at_start);
     call.grid = cell_limit; // 8 as well
     columns.check(call, known, Place::at_end);
+}
+
+// The second column closes the 2 at cell 1. It touches two cells of its key height 1: from cell 6 the 3 beside it is
+// reached, and cell 4 leads nowhere. The third column makes that one lead to a 3 as well, and it is the earlier: now
+// the pass is 4. A closed peak is not handed out again for that.
+void try_moving_pass(Columns &columns) {
+    constexpr std::int32_t B = blank;
+    constexpr std::uint32_t rows = 4;
+    const Known runs[] = {
+        {{}, {B, 2, B, B}, {}},
+        {{B, 2, B, B}, {1, B, 1, 3}, record_of(1, 2, 1, 6)},
+        {{B, 2, B, B, 1, B, 1, 3}, {3, B, B, B}, {}},
+    };
+    for (const Known &known : runs) {
+        const auto taken = static_cast<std::uint32_t>(known.taken.size() / rows);
+        for (const Place place : places) columns.check(enough(known, rows, taken), known, place);
+    }
 }
 
 // Every refusal by lengths alone, and each where a later one of the order applies as well.
@@ -263,6 +282,7 @@ int main() {
     for (const std::uint32_t rows : {1u, 2u, 7u, 64u}) try_around(columns, rows, 4);
     try_around(columns, most_rows, most_rows - 1);
     try_full(columns);
+    try_moving_pass(columns);
     std::printf("%zu column calls agree\n", columns.calls());
     return EXIT_SUCCESS;
 }

@@ -306,19 +306,19 @@ private:
     std::vector<std::uint8_t> heights_before, work_before, table_before;
 };
 
-// ---- the paper's grids
+// ---- the papers' grids, and some by hand
 
 constexpr std::int32_t B = blank;
 
-struct PaperGrid {
+struct KnownGrid {
     std::uint32_t rows;
     Heights heights;
     std::uint32_t threshold;
     std::vector<Record> records;
 };
 
-const std::vector<PaperGrid> &paper_grids() {
-    static const std::vector<PaperGrid> grids{
+const std::vector<KnownGrid> &known_grids() {
+    static const std::vector<KnownGrid> grids{
         {1, {}, 1, {}},
         {1, {B}, 1, {}},
         {1, {0}, 1, {without_key(0, 0)}},
@@ -334,18 +334,32 @@ const std::vector<PaperGrid> &paper_grids() {
         {2, {8, 1, 1, 7}, 1, {without_key(0, 8)}},
         {3, {1, 9, 1, 1, 2, 1, 1, 5, 1, 1, 4, 1, 1, 7, 1}, 1, {without_key(1, 9), {7, 5, 4, 10}, {13, 7, 2, 4}}},
         {3, {1, 9, 1, 1, 2, 1, 1, 5, 1, 1, 4, 1, 1, 7, 1}, 2, {without_key(1, 9), {13, 7, 2, 4}}},
+        {1, {4, 6, 4, 9}, 1, {{1, 6, 4, 2}, without_key(3, 9)}},
+        // By hand: a shelf that leads to a lower peak only, and one that leads on over it.
+        {1, {2, 1, 5, 1, 9}, 1, {{0, 2, 1, 1}, {2, 5, 1, 3}, without_key(4, 9)}},
+        {1, {9, 1, 2, 1, 5, 1}, 1, {without_key(0, 9), {2, 2, 1, 1}, {4, 5, 1, 3}}},
+        // Two peaks share a pass: it leads from the first to the last, and from the second to the first.
+        {1, {1, 0, 1, 0, 2}, 1, {{0, 1, 0, 1}, {2, 1, 0, 1}, without_key(4, 2)}},
+        // The third column makes the shelf at cell 4 lead to a higher peak, and the pass of the 2 moves there.
+        {4, {B, 2, B, B, 1, B, 1, 3}, 1, {{1, 2, 1, 6}, without_key(7, 3)}},
+        {4, {B, 2, B, B, 1, B, 1, 3, 3, B, B, B}, 1, {{1, 2, 1, 4}, without_key(7, 3), {8, 3, 1, 4}}},
+        // Two shelves beside the 2, which meet before the 3. The one that begins earlier touches the 2 later.
+        {5,
+         {1, B, B, 1, B, 1, B, 2, B, 1, B, 1, B, 1, B, B, B, 1, B, B, B, B, 3, B, B},
+         1,
+         {{7, 2, 1, 3}, without_key(22, 3)}},
     };
     return grids;
 }
 
-// These come from the paper by hand, so they test the definitions' lister as well.
-void try_paper_grids(Suite &suite) {
-    for (const PaperGrid &grid : paper_grids()) {
+// They don't come from the definitions' lister, so they test it as well.
+void try_known_grids(Suite &suite) {
+    for (const KnownGrid &grid : known_grids()) {
         suite.check(grid.rows, grid.heights, grid.threshold, grid.records);
         const std::vector<Record> defined = listed(definitions::Grid(grid.rows, grid.heights).peaks(), grid.threshold);
         if (defined == grid.records) continue;
         print_records("the definitions' records", defined);
-        fail("definitions.hpp itself, on a grid of the paper");
+        fail("definitions.hpp itself, on a known grid");
     }
 }
 
@@ -415,7 +429,8 @@ void try_cell_limit(Suite &suite) {
 // ---- grids of all sizes whose list is known by construction
 
 // Single cells stand out of a plain of zeros, so each is an island of its own down to 0, and its pass cell is the
-// earliest cell beside it. The first of the highest has no key height.
+// earliest cell beside it. But in one row the zero before a cell leads only to what stands before: where nothing there
+// outranks the cell, its pass is the zero behind it. The first of the highest has no key height.
 void try_plain(Suite &suite, std::uint32_t rows, std::uint32_t columns, std::uint64_t different, std::uint64_t seed) {
     Random random(seed);
     Heights heights(std::size_t{rows} * columns, 0);
@@ -425,10 +440,12 @@ void try_plain(Suite &suite, std::uint32_t rows, std::uint32_t columns, std::uin
         for (std::uint32_t row = 0; row < rows; row += 2) {
             const std::uint32_t cell = column * rows + row;
             heights[cell] = static_cast<std::int32_t>(1 + random.below(different));
-            std::uint32_t pass = cell + 1; // below it; in a grid of one row, beside it
+            std::uint32_t pass = cell + 1; // below it; in one row, behind it
             if (row > 0) pass = cell - 1;
-            if (column > 0) pass = row > 0 ? cell - rows - 1 : cell - rows;
-            if (!records.empty() && heights[cell] > records[top].height) top = records.size();
+            const bool highest_yet = records.empty() || heights[cell] > records[top].height;
+            const bool leads_back = column > 0 && (rows > 1 || !highest_yet);
+            if (leads_back) pass = row > 0 ? cell - rows - 1 : cell - rows;
+            if (highest_yet) top = records.size();
             records.push_back({cell, heights[cell], 0, pass});
         }
     }
@@ -509,13 +526,16 @@ void try_every_small_grid(Suite &suite, std::size_t part) {
         try_every_grid(suite, part, 1, length, four);
         if (length > 1 && length < 7) try_every_grid(suite, part, length, 1, four);
     }
+    try_every_grid(suite, part, 1, 9, three);
     try_every_grid(suite, part, 2, 2, four);
     try_every_grid(suite, part, 2, 3, four);
     try_every_grid(suite, part, 3, 2, four);
-    try_every_grid(suite, part, 2, 4, two_and_blank);
-    try_every_grid(suite, part, 4, 2, three);
+    try_every_grid(suite, part, 2, 4, four);
+    try_every_grid(suite, part, 4, 2, four);
     try_every_grid(suite, part, 3, 3, two_and_blank);
     try_every_grid(suite, part, 3, 3, three);
+    // These are too many for all, but have shelves that lead nowhere more often than the others.
+    try_every_grid(suite, 11 * part, 4, 3, two_and_blank);
 }
 
 // Heights of one of several hostile styles.
@@ -598,7 +618,7 @@ int main(int argc, char **argv) {
     }
     watch_signals();
     Suite suite;
-    try_paper_grids(suite);
+    try_known_grids(suite);
     try_null_pointers(suite);
     try_refusals(suite);
     try_cell_limit(suite);

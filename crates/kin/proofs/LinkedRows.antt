@@ -16,8 +16,7 @@ use lib.Dec.{ltb}
 use Rattle.relief.specs.Inner.{Decides, cut}
 use Rattle.relief.proofs.Tests.{split, test, true-not-false, lt-decides, and-decides}
 use Rattle.relief.proofs.Flats.{Terrain}
-use Rattle.area.specs.Area.{levelIn, parentIn, passIn, cellIn, markIn, prio}
-use Rattle.sweep.specs.Sweep.{passOf}
+use Rattle.area.specs.Area.{levelIn, parentIn, passIn, passOf, cellIn, markIn, prio}
 use Rattle.sweep.proofs.Orders.{ordered-same}
 use Rattle.survey.specs.Answers.{TopsNoted}
 use Rattle.kin.specs.Kin.{passesIn, peaksIn}

@@ -11,8 +11,7 @@ use native.Mathlib.Omega.{arith}
 use lib.Dec.{eqb}
 use Rattle.relief.proofs.Tests.{split, le-or-lt, true-not-false}
 use Rattle.words.specs.Words.{wordAt}
-use Rattle.area.specs.Area.{levelIn, parentIn, cellIn}
-use Rattle.sweep.specs.Sweep.{passOf}
+use Rattle.area.specs.Area.{levelIn, parentIn, passOf, cellIn}
 use Rattle.survey.specs.declared.Part.the-variants.{Whole}
 use Rattle.survey.specs.Inner.{chosenIn, listedIn}
 use Rattle.survey.proofs.ChosenCells.{chosen-blank, chosen-top, chosen-slope}

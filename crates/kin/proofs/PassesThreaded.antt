@@ -13,8 +13,8 @@ use Prim.Native.Nat.{ℕ, suc, _+_, _-_, _*_, _≤_, _<_}
 use native.Mathlib.Omega.{arith}
 use native.Mathlib.Decide.{ℕ-discrete}
 use Rattle.relief.proofs.Tests.{split, below-suc}
-use Rattle.area.specs.Area.{levelIn, parentIn, passIn, cellIn, markIn, prio}
-use Rattle.sweep.specs.Sweep.{passOf, cellAt}
+use Rattle.area.specs.Area.{levelIn, parentIn, passIn, passOf, cellIn, markIn, prio}
+use Rattle.sweep.specs.Sweep.{cellAt}
 use Rattle.kin.specs.Inner.{Row, Under, Threading, Threaded, Threadable, Put, ThreadedCell, left, put}
 use Rattle.kin.proofs.Chains.{row-none, row-same, row-more}
 use Rattle.kin.proofs.ListedCells.{test-apart}

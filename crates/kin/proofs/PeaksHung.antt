@@ -17,8 +17,7 @@ use native.Mathlib.Decide.{ℕ-discrete}
 use lib.Dec.{eqb}
 use borrow.Author.Tests.{ne-eqb}
 use Rattle.relief.proofs.Tests.{split, test, below-suc, true-not-false}
-use Rattle.area.specs.Area.{levelIn, parentIn, passIn, cellIn, markIn}
-use Rattle.sweep.specs.Sweep.{passOf}
+use Rattle.area.specs.Area.{levelIn, parentIn, passIn, passOf, cellIn, markIn}
 use Rattle.survey.specs.Inner.{Choosing}
 use Rattle.kin.specs.Inner.{Row, listed, Hangs, firstIn, Hanging, Hung, Entered, Filed, FiledCell, left, top}
 use Rattle.kin.specs.Inner.{hung}

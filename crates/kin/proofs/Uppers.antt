@@ -21,8 +21,8 @@ use Rattle.relief.proofs.Ways.{way-end}
 use Rattle.relief.proofs.Flats.{Terrain}
 use Rattle.relief.proofs.Keys.{key-land, key-exclusive}
 use Rattle.relief.proofs.Parents.{parent-of-pass, parent-unique, parent-none, parent-listed}
-use Rattle.area.specs.Area.{levelIn, parentIn}
-use Rattle.sweep.specs.Sweep.{passOf, RegionTop, Topped, noted, highest}
+use Rattle.area.specs.Area.{levelIn, parentIn, passOf}
+use Rattle.sweep.specs.Sweep.{RegionTop, Topped, noted, highest}
 use Rattle.survey.specs.Answers.{entryIn, TopsNoted}
 use Rattle.survey.proofs.CellKinds.{entry-root, entry-hung, entry-cell}
 use Rattle.survey.proofs.Answers.{Settled, whole-told, entry-only}

@@ -18,8 +18,8 @@ use mathlib.Core.Logic.{_⊎_}
 use Prim.Native.Nat.{ℕ, _+_, _-_, _*_, _≤_, _<_}
 use lib.ListN.{length}
 use Rattle.words.specs.Words.{wordAt}
-use Rattle.area.specs.Area.{Area, levelIn, parentIn, passIn, cellIn, markIn, prio}
-use Rattle.sweep.specs.Sweep.{passOf, cellAt, Kept, Ordered}
+use Rattle.area.specs.Area.{Area, levelIn, parentIn, passIn, passOf, cellIn, markIn, Kept, prio}
+use Rattle.sweep.specs.Sweep.{cellAt, Ordered}
 use Rattle.survey.specs.declared.Part.the-variants.{Whole}
 use Rattle.survey.specs.Inner.{chosenIn}
 use Rattle.kin.specs.Kin.{Chain}

@@ -2,8 +2,7 @@
 ghost use mathlib.Core.Path.{_≡_};
 ghost use Prim.Native.Nat.{_<_};
 ghost use Rattle.relief.specs.Plane.{planeOf, touchOf};
-ghost use Rattle.area.specs.Area.{Area};
-ghost use Rattle.sweep.specs.Sweep.{passOf};
+ghost use Rattle.area.specs.Area.{Area, passOf};
 ghost use Rattle.survey.specs.Answers.{TopsNoted};
 ghost use Rattle.survey.specs.Inner.{Choosing};
 ghost use Rattle.kin.specs.Kin.{isTop, Kinned};

@@ -3,7 +3,7 @@ ghost use mathlib.Core.Path.{_≡_};
 ghost use lib.ListN.{length};
 use crate::first;
 use crate::first::Told;
-use crate::records::alike;
+use crate::records::same;
 use run::Run;
 use run::Started;
 use second::MAX;
@@ -34,7 +34,7 @@ pub fn answer(
     let mut other = [0i64; 256];
     let count = by_second(call, rows, heights, threshold, out);
     let told = by_first(call, narrow(rows), heights, threshold, &mut other);
-    if told.refusal == 0 && told.kept && alike(out, count, &other, told.count) {
+    if told.refusal == 0 && told.kept && same(out, count, &other, told.count) {
         return count;
     }
     MAX + 1

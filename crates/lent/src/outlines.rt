@@ -37,8 +37,8 @@ pub fn ended(rows: u32, cells: usize, threshold: u32) -> Run {
 }
 
 // The number of the refusal of an outline call with a work area and a text room of so many bytes, where the second
-// lister has written `count` bytes of text. It is 0 for none, and 99, which no refusal has, where the listers differ, in
-// the text too, or where a byte has changed that should not.
+// lister has written `count` bytes of text. It is 0 for none, and 99, which no refusal has, where the listers differ,
+// in the text too, or where a byte has changed that should not.
 pub fn refusal(
     run: Run,
     grid: &[i32],

@@ -46,7 +46,7 @@ fn append_one(batch: &Records, i: usize, parts: &mut Records, at: usize) -> usiz
 }
 
 // Whether two rows of records are the same, in the same order. More records than cells are no list.
-pub fn alike(a: &Records, count: usize, b: &Records, total: usize) -> bool {
+pub fn same(a: &Records, count: usize, b: &Records, total: usize) -> bool {
     if count > MAX {
         return false;
     }
@@ -54,16 +54,17 @@ pub fn alike(a: &Records, count: usize, b: &Records, total: usize) -> bool {
         return false;
     }
     for i in 0..count {
-        if !equal(a, i, b, i) {
+        if !equal(a, i, b, i, 4) {
             return false;
         }
     }
     true
 }
 
-// Whether two rows of records are the same but for their order. No two records of a list are equal, so that as many
-// records of which each is found are the same.
-pub fn same(whole: &Records, count: usize, parts: &Records, total: usize) -> bool {
+// Whether the records of a list are those that were handed out, in some order: equal in the first so many numbers, and
+// with no pass cell that is later than the one handed out. No two records of a list have the same cell, so that as many
+// records of which each is found are the same peaks.
+pub fn alike(whole: &Records, count: usize, parts: &Records, total: usize, numbers: usize) -> bool {
     if count > MAX {
         return false;
     }
@@ -71,26 +72,26 @@ pub fn same(whole: &Records, count: usize, parts: &Records, total: usize) -> boo
         return false;
     }
     for i in 0..count {
-        if !found(whole, i, parts, total) {
+        if !found(whole, i, parts, total, numbers) {
             return false;
         }
     }
     true
 }
 
-// Whether record i of the one row is in the other.
-fn found(whole: &Records, i: usize, parts: &Records, total: usize) -> bool {
+// Whether record i of the list is among those that were handed out.
+fn found(whole: &Records, i: usize, parts: &Records, total: usize, numbers: usize) -> bool {
     for j in 0..total {
-        if equal(whole, i, parts, j) {
+        if equal(whole, i, parts, j, numbers) && field(whole, i, 3) <= field(parts, j, 3) {
             return true;
         }
     }
     false
 }
 
-// Whether record i of the one row is record j of the other.
-fn equal(a: &Records, i: usize, b: &Records, j: usize) -> bool {
-    for place in 0..4 {
+// Whether record i of the one row and record j of the other have the same first numbers, so many of them.
+fn equal(a: &Records, i: usize, b: &Records, j: usize, numbers: usize) -> bool {
+    for place in 0..numbers {
         if field(a, i, place) != field(b, j, place) {
             return false;
         }

@@ -4,7 +4,8 @@
 --     closed-later       a peak closed at one stage is closed at every later one
 --     batch-of-closed    a listed peak that is closed was handed out by some call
 --     batches-hold       a peak stands in the list if and only if it stands in a batch or in the rest
---     batches-pass       and with the same pass cell
+--     batches-pass       of a peak in a batch the list has the pass cell handed out or an earlier one, ..
+--     rest-pass          .. and of one in the rest the same
 --     batches-once       no peak is handed out by two calls, nor by a call and by End
 -- A peak that is closed now either was closed one call before, and then it was alike, or this call hands it out. So
 -- going back from the last stage, where no peak is left at zero columns, finds the call. That a closed peak stays is
@@ -75,12 +76,12 @@ module _ {touch : ℕ → ℕ → Type 0} {touch? : ℕ → ℕ → Bool} {stage
 
   -- a closed peak of an earlier stage is the entry of its cell later
   closed-entry : (i j : ℕ) (d e : Entry) → i ≤ j → Closed touch (stage i) d → PeakEntry touch (stage j .level) e
-      → d .cell ≡ e .cell → Closed touch (stage j) e × Alike d e × (passCellOf (d .key) ≡ passCellOf (e .key))
+      → d .cell ≡ e .cell → Closed touch (stage j) e × Alike d e × (passCellOf (e .key) ≤ passCellOf (d .key))
   closed-entry i j d e l h r q =
       let s = closed-later i j d l h in
-      subst (λ (x : Entry). Closed touch (stage j) x × Alike d x × (passCellOf (d .key) ≡ passCellOf (x .key)))
+      subst (λ (x : Entry). Closed touch (stage j) x × Alike d x × (passCellOf (x .key) ≤ passCellOf (d .key)))
       (entry-unique (s .entry) e (s .closed .right) r (s .alike .cell ∙ q))
-      (s .closed, alike-sym (s .alike), sym (s .pass))
+      (s .closed, alike-sym (s .alike), s .pass)
 
   module _ (T : ℕ) (batch : ℕ → List Entry) where
     abbrev Calls : ℕ → Type 0
@@ -144,10 +145,13 @@ module _ {touch : ℕ → ℕ → Type 0} {touch? : ℕ → ℕ → Bool} {stage
               (s .entry, k, alike-trans (s .alike) a)
           back (inr (d, b, a)) = (d, h .complete d (r .sound d b .listed), a)
 
-      pub batches-pass : (d e : Entry) → Member e l → ((j : ℕ) × (j < m) × Member d (batch j)) ⊎ Member d rest
-          → d .cell ≡ e .cell → passCellOf (d .key) ≡ passCellOf (e .key)
-      batches-pass d e b (inl (j, i, k)) q =
+      pub batches-pass : (j : ℕ) (d e : Entry) → j < m → Member d (batch j) → Member e l
+          → d .cell ≡ e .cell → passCellOf (e .key) ≤ passCellOf (d .key)
+      batches-pass j d e i k b q =
           closed-entry (suc j) m d e i (calls j i .sound d k .closed) (h .sound e b .right) q .2
-      batches-pass d e b (inr k) q =
+
+      pub rest-pass : (d e : Entry) → Member d rest → Member e l
+          → d .cell ≡ e .cell → passCellOf (d .key) ≡ passCellOf (e .key)
+      rest-pass d e k b q =
           ap (λ (x : Entry). passCellOf (x .key))
           (entry-unique d e (r .sound d k .listed .right) (h .sound e b .right) q)

@@ -3,7 +3,8 @@ pub mod Levels  -- heights, levels, and levels cut off at a cell
 pub mod Ways  -- ways and paths, and the least level on them
 pub mod Reach  -- whether there is a way, by a test
 pub mod Flats  -- flats and peaks; what outranks is better
-pub mod Keys  -- key heights, islands, pass cells
+pub mod Keys  -- key heights and islands
+pub mod Passes  -- leading over, and pass cells
 pub mod Lists  -- entries, and lists in reading order
 pub mod Survey  -- the definitions computed: entries and the list
 pub mod Parents  -- parents and what they are

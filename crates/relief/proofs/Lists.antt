@@ -18,8 +18,8 @@ use Rattle.relief.specs.Peaks.{Wanted, Rising, InReadingOrder}
 use Rattle.relief.specs.Inner.{Decides, Best}
 use Rattle.relief.proofs.Tests.{split, below-suc}
 use Rattle.relief.proofs.Flats.{Terrain}
-use Rattle.relief.proofs.Keys.{key-unique, key-exclusive, key-land, pass-unique, key-below}
-use Rattle.relief.proofs.Keys.{best-of-key, best-of-none}
+use Rattle.relief.proofs.Keys.{key-unique, key-exclusive, key-land, key-below, best-of-key}
+use Rattle.relief.proofs.{Keys.best-of-none, Passes.pass-unique}
 
 -- ---- a peak has one entry
 

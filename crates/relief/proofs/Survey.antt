@@ -10,17 +10,18 @@ use mathlib.Core.List.{List}
 use mathlib.Core.Logic.{_⊎_, inl, inr}
 use Prim.Native.Nat.{ℕ, zero, suc, _-_, _≤_, _<_}
 use native.Mathlib.Omega.{arith}
-use lib.Dec.{eqb, leb, ltb}
+use lib.Dec.{leb, ltb}
 use Rattle.relief.specs.Peaks.{Way, Flat, Peak, Key, missing, key, Entry, Wanted, KeyOf, PeakEntry, Listed}
 use Rattle.relief.specs.Peaks.{KeyHeight, NoKey, ListOf}
-use Rattle.relief.specs.Inner.{Decides, Better, above, before, Best}
+use Rattle.relief.specs.Inner.{Decides, Better, Best}
 use Rattle.relief.proofs.Tests.{split, passes, true-not-false, anyBelow, allBelow, topBelow, top-below, le-or-lt}
-use Rattle.relief.proofs.Tests.{eq-decides, le-decides, lt-decides, and-decides, or-decides, any-decides}
-use Rattle.relief.proofs.Tests.{all-decides, decides-iff}
+use Rattle.relief.proofs.Tests.{le-decides, lt-decides, and-decides, any-decides, all-decides, decides-iff}
 use Rattle.relief.proofs.Ways.{way-end, way-mono, least-below, least-attained, path-of-way}
 use Rattle.relief.proofs.Reach.{reach, way-decides}
-use Rattle.relief.proofs.Flats.{Terrain, land-below, flat?, flat-below, flat-decides, peak-not-better}
-use Rattle.relief.proofs.Keys.{key-of-best, none-of-best, pass, pass-exists}
+use Rattle.relief.proofs.Flats.{Terrain, land-below, flat?, better?, flat-below, flat-decides}
+use Rattle.relief.proofs.Flats.{better-decides, peak-not-better}
+use Rattle.relief.proofs.Keys.{key-of-best, none-of-best}
+use Rattle.relief.proofs.Passes.{pass, pass-exists}
 use Rattle.relief.proofs.Lists.{entry-unique, collect, collect-order}
 
 -- ---- the tests
@@ -36,12 +37,9 @@ module _ (touch? : ℕ → ℕ → Bool) (level : ℕ → ℕ) (n : ℕ) where
       && allBelow n (λ b. implies (flat? touch? level n p b)
       (leb p b && allBelow n (λ c. implies (touch? b c) (leb (level c) (level p)))))
 
-  unfoldable pub better? : ℕ → ℕ → Bool
-  better? c x = ltb (level x) (level c) || (eqb (level c) (level x) && ltb c x)
-
   -- at or above the floor f the cell x reaches a better one
   unfoldable pub joined? : ℕ → ℕ → Bool
-  joined? x f = anyBelow n (λ g. better? g x && reach touch? (λ c. leb f (level c)) n x g)
+  joined? x f = anyBelow n (λ g. better? level g x && reach touch? (λ c. leb f (level c)) n x g)
 
   unfoldable pub keyLevel : ℕ → ℕ
   keyLevel x = topBelow n (λ c. ltb 0 (level c) && joined? x (level c)) level
@@ -115,21 +113,11 @@ module _ {touch : ℕ → ℕ → Type 0} {touch? : ℕ → ℕ → Bool} {level
       parts : Peak touch level p → Parts
       parts q = (q .land, λ b l w. (q .earliest b w, λ c k s. q .top b c w s))
 
-  better-decides : (c x : ℕ) → Decides (Better level c x) (better? touch? level n c x)
-  unfolding better?
-  better-decides c x =
-      decides-iff (λ s. split s above (λ h. before (h .0) (h .1))) cases
-      (or-decides (lt-decides (level x) (level c)) (and-decides (eq-decides (level c) (level x)) (lt-decides c x)))
-    where
-      cases : Better level c x → (level x < level c) ⊎ ((level c ≡ level x) × (c < x))
-      cases (above l) = inl l
-      cases (before e l) = inr (e, l)
-
   joined-decides : (x f : ℕ) → 0 < f
       → Decides ((g : ℕ) × (g < n) × (Better level g x × Way touch (λ c. f ≤ level c) x g)) (joined? touch? level n x f)
   unfolding joined?
   joined-decides x f l =
-      any-decides (λ g. and-decides (better-decides g x)
+      any-decides (λ g. and-decides (better-decides level g x)
       (way-decides (t .decides) (λ c. le-decides f (level c)) n (λ c h. land-below t c (omega arith)) x g)) n
 
   -- what `keyLevel` is the top of

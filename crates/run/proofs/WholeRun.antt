@@ -126,6 +126,7 @@ run-holds run run′ cells grid batches n work work′ table table′ c e h =
       closes = t .closes;
       hold = λ l k. r .batches-hold l (listed t l k);
       pass = λ l k. r .batches-pass l (listed t l k);
+      rest-pass = λ l k. r .rest-pass l (listed t l k);
       once = r .batches-once;
       last = r .rest-once;
     }

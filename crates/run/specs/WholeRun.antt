@@ -5,7 +5,7 @@
 use mathlib.Core.Path.{_≡_}
 use mathlib.Core.List.{List, [], _∷_, _++_}
 use mathlib.Core.Logic.{_⊎_, _↔_}
-use Prim.Native.Nat.{ℕ, suc, _<_}
+use Prim.Native.Nat.{ℕ, suc, _≤_, _<_}
 use lib.IntN.{ℤ}
 use lib.ListN.{length, take, getD}
 use Rattle.relief.specs.Heights.{levels}
@@ -43,9 +43,12 @@ pub record HoldsList (shape : Shape) (T : ℕ) (cells : List ℤ) (batches : Lis
       → Batch (touchOf shape) (stageOf shape j cells) (stageOf shape (suc j) cells) T (getD batches j [])
   pub hold : (l : List Entry) → ListOf (touchOf shape) (levels cells) T l → (e : Entry)
       → Among e l ↔ (((j : ℕ) × (j < length batches) × Among e (getD batches j [])) ⊎ Among e rest)
-  pub pass : (l : List Entry) → ListOf (touchOf shape) (levels cells) T l → (d e : Entry) → Member e l
-      → ((j : ℕ) × (j < length batches) × Member d (getD batches j [])) ⊎ Member d rest → d .cell ≡ e .cell
-      → passCellOf (d .key) ≡ passCellOf (e .key)
+  -- Of a peak in a batch the list has the pass cell that was handed out, or an earlier one; of one in the rest, the
+  -- same.
+  pub pass : (l : List Entry) → ListOf (touchOf shape) (levels cells) T l → (j : ℕ) (d e : Entry) → j < length batches
+      → Member d (getD batches j []) → Member e l → d .cell ≡ e .cell → passCellOf (e .key) ≤ passCellOf (d .key)
+  pub rest-pass : (l : List Entry) → ListOf (touchOf shape) (levels cells) T l → (d e : Entry)
+      → Member d rest → Member e l → d .cell ≡ e .cell → passCellOf (d .key) ≡ passCellOf (e .key)
   pub once : (i j : ℕ) (e e′ : Entry) → i < j → j < length batches → Member e (getD batches i [])
       → Member e′ (getD batches j []) → e .cell ≡ e′ .cell → ⊥
   pub last : (i : ℕ) (e e′ : Entry) → i < length batches → Member e (getD batches i []) → Member e′ rest

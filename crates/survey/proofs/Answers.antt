@@ -19,8 +19,9 @@ use Rattle.relief.proofs.Tests.{passes}
 use Rattle.relief.proofs.Lists.{entry-unique}
 use Rattle.words.specs.Words.{wordAt}
 use Rattle.words.proofs.Laws.{Bytes, bytes-beyond}
-use Rattle.area.specs.Area.{Area, levelIn, orderIn, parentIn, cellIn, markIn}
-use Rattle.sweep.specs.Sweep.{Surveyed, Shores, passOf, reachOf, shoreOf}
+use Rattle.area.specs.Area.{Area, levelIn, orderIn, parentIn, passOf, reachOf, shoreOf, cellIn, markIn}
+use Rattle.groups.specs.Groups.{Shores}
+use Rattle.sweep.specs.Sweep.{Surveyed}
 use Rattle.survey.specs.declared.Part.{Part}
 use Rattle.survey.specs.declared.Part.the-variants.{Whole, Closing, Open}
 use Rattle.survey.specs.Inner.{wantsPart, listedIn, openIn, chosenIn, Collected}

@@ -12,10 +12,9 @@ use lib.Dec.{eqb}
 use lib.ListN.{length, length-append}
 use Rattle.relief.specs.Heights.{heightOf}
 use Rattle.relief.specs.Peaks.{missing, key, Entry}
-use Rattle.area.specs.Area.{levelIn, orderIn, parentIn}
+use Rattle.area.specs.Area.{levelIn, orderIn, parentIn, passOf}
 use Rattle.record.specs.declared.Peak.{Peak}
 use Rattle.record.specs.Records.{withKey, withoutKey, recordOf}
-use Rattle.sweep.specs.Sweep.{passOf}
 use Rattle.table.specs.Inner.{peakIn, recordsIn}
 use Rattle.survey.specs.Answers.{pickKey, entryIn, upTo, entriesIn}
 

@@ -16,6 +16,7 @@ use Rattle.relief.proofs.Ways.{way-end, way-step, path-of-way}
 use Rattle.relief.proofs.Reach.{way-decides}
 use Rattle.relief.proofs.Flats.{Terrain, land-below, climb}
 use Rattle.relief.proofs.Keys as Keys
+use Rattle.relief.proofs.Passes as Passes
 use Rattle.relief.proofs.Lists as Listing
 use Rattle.relief.proofs.Survey.{peak-key, survey-list}
 use Rattle.relief.proofs.Parents as Parents
@@ -27,7 +28,7 @@ use Rattle.relief.proofs.Plane as Plane
 use Rattle.relief.proofs.Levels.{heightOf-level}
 use Rattle.relief.proofs.Shapes.{touch-decides, touch-symmetric, stage-further, run-grows, stage-open-changes}
 use Rattle.theorems.specs.Claims.{Touching, OfGrid, Handing, OfHanding, Claims}
-use Rattle.theorems.proofs.Grids.{marked-follow, parent-can-change}
+use Rattle.theorems.proofs.Grids.{marked-follow, pass-can-move, parent-can-change}
 
 abbrev isYes : {A : Type 0} → Dec A → Bool
 isYes (yes a) = true
@@ -93,8 +94,8 @@ module _ {touch : ℕ → ℕ → Type 0} {touch? : ℕ → ℕ → Bool} {level
       λ c w. way-end w,
       λ a b w away s. split (le-or-lt (level b) k) (λ h. h) (λ h. absurd (away (way-step w s h))),
     );
-    pass-unique = λ p k c c′ h h′. Keys.pass-unique h h′;
-    pass-exists = λ p k q h. (_, Keys.pass-exists t q h);
+    pass-unique = λ p k c c′ h h′. Passes.pass-unique h h′;
+    pass-exists = λ p k q h. (_, Passes.pass-exists t q h);
     entry-unique = λ e e′ h h′ s. Listing.entry-unique e e′ h h′ s;
     list-exists = λ T. (_, survey-list t T);
     zero-lists-one = λ l. (
@@ -145,6 +146,8 @@ of-handing t stage columns T batch rest r =
           (r .batches) (r .ended);
       batches-pass = λ l h. Growing.batches-pass (t .symmetric) told (r .grows) T batch columns rest l
           (r .batches) (r .ended) h;
+      rest-pass = λ l h. Growing.rest-pass (t .symmetric) told (r .grows) T batch columns rest l
+          (r .batches) (r .ended) h;
     }
 
 -- ---- all of them
@@ -179,6 +182,7 @@ claims = record {
         stage-open-changes shape columns heights whole (heightOf (suc (e .level))) e o (omega arith),
       );
   handing = of-handing;
+  pass-can-move = pass-can-move;
   parent-can-change = parent-can-change;
   marked-follow = marked-follow;
 }

@@ -2,7 +2,8 @@
 --     agrees x             the survey of an example gives what the table says, by a test
 --     follow               and then each example is as the definitions say
 --     marked-follow        the whole table, by one computation
---     parent-can-change    and by another that a closed peak's parent may change
+--     pass-can-move        by another that a closed peak's pass cell can move to an earlier one
+--     parent-can-change    and by one more that its parent may change
 -- Assumes nothing.
 use mathlib.Core.Path.{_≡_, refl, subst}
 use mathlib.Core.Bool.{Bool, true, false, _&&_}
@@ -19,12 +20,13 @@ use Rattle.relief.specs.Runs.{Batch, Rest}
 use Rattle.relief.specs.Plane.{Shape, planeOf, touchOf, stageOf}
 use Rattle.relief.specs.Outline.{decimalOf, peakLine, passLine, each, peakText, Outline}
 use Rattle.relief.proofs.Tests.{true-not-false, and-true}
-use Rattle.relief.proofs.Survey.{peak?, better?, joined?, keyLevel, entryAt, listed?, survey, peak-decides, survey-list}
+use Rattle.relief.proofs.Flats.{better?}
+use Rattle.relief.proofs.Survey.{peak?, joined?, keyLevel, entryAt, listed?, survey, peak-decides, survey-list}
 use Rattle.relief.proofs.BatchSurvey.{closed?, closed-decides, surveyRest, surveyBatch, survey-rest, survey-batch}
 use Rattle.relief.proofs.OutlineSurvey.{parent?, surveyTops, surveyChildren, surveyOutline, parent-decides}
 use Rattle.relief.proofs.OutlineSurvey.{survey-outline}
 use Rattle.relief.proofs.Shapes.{touch?, shape-terrain, stage-staged}
-use Rattle.theorems.specs.Claims.{changing, ParentCanChange}
+use Rattle.theorems.specs.Claims.{moving, PassCanMove, changing, ParentCanChange}
 use Rattle.theorems.specs.Grids.{Example, grid, run, outline, HandedOut, Follow, marked}
 
 -- ---- tests of equality
@@ -142,6 +144,15 @@ marked-follow = follow marked agree
   where
     agree : all marked ≡ true
     agree = refl
+
+pub pass-can-move : PassCanMove
+unfolding levels levelOf peak? better? joined? keyLevel entryAt closed?
+pass-can-move = record {
+  closed = closed-decides (stage-staged (planeOf 4) 2 moving) 1 .holds refl;
+  after = closed-decides (stage-staged (planeOf 4) 3 moving) 1 .holds refl;
+  alike = record { cell = refl; level = refl; floor = refl };
+  earlier = omega arith;
+}
 
 pub parent-can-change : ParentCanChange
 unfolding levels levelOf peak? better? joined? keyLevel entryAt closed? parent?

@@ -2,10 +2,10 @@
 use mathlib.Core.{Path._≡_, List.List, List.[], List._∷_, List._++_, Logic._⊎_, Logic._↔_}
 use Prim.Native.Nat.{ℕ, suc, _+_, _-_, _*_, _≤_, _<_}
 use lib.{IntN.ℤ, IntN.pos, ListN.length, ListN.replicate, Signed.mag}
-use Rattle.relief.specs.Heights.{levelOf}
+use Rattle.relief.specs.Heights.{BLANK, levelOf}
 use Rattle.relief.specs.Peaks.{Way, least, Path, Peak, Outranks, KeyHeight, NoKey, Island, PassCell, Entry}
-use Rattle.relief.specs.Peaks.{floorOf, passCellOf, prominence, Member, Among, InReadingOrder, PeakEntry, ListOf}
-use Rattle.relief.specs.{Peaks.Listed, Outline.Parent, Outline.Outline}
+use Rattle.relief.specs.Peaks.{floorOf, passCellOf, Alike, prominence, Member, Among, InReadingOrder, PeakEntry}
+use Rattle.relief.specs.{Peaks.Listed, Peaks.ListOf, Outline.Parent, Outline.Outline}
 use Rattle.relief.specs.Runs.{Stage, Closed, Open, Batch, Rest, Further, Growing, StaysClosed}
 use Rattle.relief.specs.Plane.{rowOf, columnOf, Plane, Shape, planeOf, touchOf, stageOf}
 use Rattle.theorems.specs.Grids.{keyed, Follow, marked}
@@ -73,10 +73,31 @@ module _ (touch : ℕ → ℕ → Type 0) (stage : ℕ → Stage) (columns T : �
     pub batches-once : (i j : ℕ) (e e′ : Entry) → i < j → j < columns → Member e (batch i) → Member e′ (batch j)
         → e .cell ≡ e′ .cell → ⊥
     pub rest-once : (i : ℕ) (e e′ : Entry) → i < columns → Member e (batch i) → Member e′ rest → e .cell ≡ e′ .cell → ⊥
-    -- What was handed out of a peak has the pass cell that the list has.
-    pub batches-pass : (l : List Entry) → ListOf touch (stage columns .level) T l → (d e : Entry) → Member e l
-        → ((j : ℕ) × (j < columns) × Member d (batch j)) ⊎ Member d rest
-        → d .cell ≡ e .cell → passCellOf (d .key) ≡ passCellOf (e .key)
+    -- Of a peak in a batch the list has the pass cell that was handed out, or an earlier one; of one in the rest, the
+    -- same.
+    pub batches-pass : (l : List Entry) → ListOf touch (stage columns .level) T l → (j : ℕ) (d e : Entry) → j < columns
+        → Member d (batch j) → Member e l → d .cell ≡ e .cell → passCellOf (e .key) ≤ passCellOf (d .key)
+    pub rest-pass : (l : List Entry) → ListOf touch (stage columns .level) T l → (d e : Entry)
+        → Member d rest → Member e l → d .cell ≡ e .cell → passCellOf (d .key) ≡ passCellOf (e .key)
+
+-- The peak of e is closed at both stages; the second has it as e′, with an earlier pass cell.
+pub record PassMoves (touch : ℕ → ℕ → Type 0) (s s′ : Stage) (e e′ : Entry) : Type 0 where
+  pub closed : Closed touch s e
+  pub after : Closed touch s′ e′
+  pub alike : Alike e e′
+  pub earlier : passCellOf (e′ .key) < passCellOf (e .key)
+
+-- Of these columns of four cells the first two close the 2. Its pass is cell 6, which leads to the 3 below it; the 1 at
+-- cell 4 leads nowhere. The third column has a 3 that touches that one, and makes it the pass.
+abbrev pub moving : List ℤ
+moving =
+    (BLANK ∷ pos 2 ∷ BLANK ∷ BLANK ∷ []) ++ (pos 1 ∷ BLANK ∷ pos 1 ∷ pos 3 ∷ [])
+    ++ (pos 3 ∷ BLANK ∷ BLANK ∷ BLANK ∷ [])
+
+abbrev pub PassCanMove : Type 0
+PassCanMove =
+    PassMoves (touchOf (planeOf 4)) (stageOf (planeOf 4) 2 moving) (stageOf (planeOf 4) 3 moving)
+    (keyed 1 (pos 2) (pos 1) 6) (keyed 1 (pos 2) (pos 1) 4)
 
 -- The peak e is closed at both stages; its parent is q at the first and q′ at the second.
 pub record ParentChanges (touch : ℕ → ℕ → Type 0) (s s′ : Stage) (e : Entry) (q q′ : ℕ) : Type 0 where
@@ -115,7 +136,8 @@ pub record Claims : Type 1 where
   pub closed-exactly : (touch : ℕ → ℕ → Type 0) (s : Stage) (e : Entry) → PeakEntry touch (s .level) e
       → Closed touch s e
       ↔ ((c : ℕ) → s .newest ≤ c → Way touch (λ d. floorOf (e .key) < s .level d) (e .cell) c → ⊥)
-  -- "No further columns change a closed peak's cell, height, key height or pass cell", and it stays closed: ..
+  -- "further columns leave a closed peak's cell, height and key height as they are, and can move its pass cell only to
+  -- an earlier one", and it stays closed: ..
   pub closed-stays : (t : Touching) (s s′ : Stage) → Further (t .touch) s s′ → (e : Entry) → Closed (t .touch) s e
       → StaysClosed (t .touch) s′ e
   -- .. and so for any number of columns, of any heights.
@@ -135,7 +157,10 @@ pub record Claims : Type 1 where
       → d .cell ≡ e .cell → floorOf (d .key) ≡ floorOf (e .key) → ⊥)
   pub handing : (t : Touching) (stage : ℕ → Stage) (columns T : ℕ) (batch : ℕ → List Entry) (rest : List Entry)
       → Handing (t .touch) stage columns T batch rest → OfHanding (t .touch) stage columns T batch rest
+  -- It can indeed move, though the peak is closed.
+  pub pass-can-move : PassCanMove
   -- "Until the end a closed peak's parent may change; demand 3 doesn't cover parents."
   pub parent-can-change : ParentCanChange
-  -- "The ten grids marked * below are shown to follow from the definitions", and the outline of document 02.
+  -- "The ten grids marked * below are shown to follow from the definitions", and the outline and the pass
+  -- of document 02.
   pub marked-follow : Follow marked

@@ -1,5 +1,5 @@
--- The marked grids of section "Grids to check by" of document 01, and the outline of request (i) of document 02, as one
--- table. Assumes nothing.
+-- The marked grids of section "Grids to check by" of document 01, and the outline of request (i) and the pass of request
+-- (ii) of document 02, as one table. Assumes nothing.
 use mathlib.Core.{Path._≡_, List.List, List.[], List._∷_}
 use Prim.Native.Nat.{ℕ, suc, _*_}
 use lib.{IntN.ℤ, IntN.pos, IntN.negsuc, ListN.length}
@@ -63,6 +63,9 @@ marked =
     ∷ run 1 1 (pos 5 ∷ BLANK ∷ []) ([] ∷ (lone 0 (pos 5) ∷ []) ∷ []) []
     -- "Two rows, cells 8 1 1 7: one peak, at 0; the 7 touches the 8 at a corner."
     ∷ grid 2 1 (pos 8 ∷ pos 1 ∷ pos 1 ∷ pos 7 ∷ []) (lone 0 (pos 8) ∷ [])
+    -- "In the one-row run 4 6 4 9 the marker for the 6 stands at cell 0, a shelf that leads nowhere." The pass "is cell
+    -- 2".
+    ∷ grid 1 1 (pos 4 ∷ pos 6 ∷ pos 4 ∷ pos 9 ∷ []) (keyed 1 (pos 6) (pos 4) 2 ∷ lone 3 (pos 9) ∷ [])
     -- "The one-row run 9 2 5 4 7 at T = 1 and two levels prints `1 peak 0 9 0`, `1 pass 1 2`, `2 peak 4 7 1`": three
     -- lines, with a line feed behind each.
     ∷ outline 1 1 2 (pos 9 ∷ pos 2 ∷ pos 5 ∷ pos 4 ∷ pos 7 ∷ [])

@@ -2,12 +2,12 @@
 use lent::answers::BYTES;
 use lent::first;
 use lent::first::Told;
-use lent::records::alike;
+use lent::records::same;
 use run::Run;
 use second::Records;
 
-// What a call is lent beside its grid: a work area of so many bytes, and a table of so many records or, for an outline, a
-// room of so many bytes.
+// What a call is lent beside its grid: a work area of so many bytes, and a table of so many records or, for an outline,
+// a room of so many bytes.
 pub struct Lent {
     pub bytes: usize,
     pub room: usize,
@@ -168,7 +168,7 @@ fn tells(told: Told, out: &Records, refusal: u32, records: &Records, count: usiz
         return false;
     }
     match refusal {
-        0 => alike(out, told.count, records, count),
+        0 => same(out, told.count, records, count),
         5 => told.count == count,
         _ => true,
     }

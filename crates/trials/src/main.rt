@@ -4,7 +4,7 @@
 // The lister is asked through its public calls, each that hands out records lent a row of them. What differs is printed
 // by its number, from which all of a grid or run is drawn.
 mod backwards; // backwards.rt: the list of a grid that is read backwards
-mod batches; // batches.rt: the batches of a run are the list
+mod batches; // batches.rt: the batches of a run are the list, pass cells apart
 mod both; // both.rt: one call of both listers, accepted or refused
 mod forged; // forged.rt: run records that are refused
 mod growing; // growing.rt: both listers on runs
@@ -19,8 +19,8 @@ use libc::STDOUT_FILENO;
 // How many made-up grids each relation is tried on.
 const GRIDS: u64 = 300;
 
-// The made-up grids behind these, up to the first of the runs, the runs up to the first of the outlines, and the outlines
-// up to the last: both listers are compared on them, with the refusals.
+// The made-up grids behind these, up to the first of the runs, the runs up to the first of the outlines, and the
+// outlines up to the last: both listers are compared on them, with the refusals.
 const FIRST_RUN: u64 = 700;
 
 const FIRST_OUTLINE: u64 = 850;
@@ -29,8 +29,10 @@ const LAST_OUTLINE: u64 = 1150;
 
 // What is tried.
 enum Trial {
-    // The batches of a run are its list.
+    // The batches of a run are its list, pass cells apart.
     Batches,
+    // A pass cell that was handed out is not that of the list.
+    Moves,
     // A grid without equal heights has the same list backwards.
     Backwards,
     // The list is written to a file and read back the same.
@@ -51,11 +53,31 @@ fn main() {
 // Prints on how many made-up grids two answers are related as they must be.
 fn related() {
     say_of_all(count(Trial::Batches, 0, GRIDS));
-    say(b" runs: batches and list agree\n");
+    say(b" runs: batches and list agree, pass cells apart, which only move to earlier ones\n");
+    say_if_passes_move();
     say_of_all(count(Trial::Backwards, 0, GRIDS));
     say(b" grids without equal heights: the list read backwards agrees\n");
     say_of_all(count(Trial::Refiled, 0, GRIDS));
     say(b" lists: written to a file and read back the same\n");
+}
+
+// Prints whether there is such a move. Without one the runs would not try it.
+fn say_if_passes_move() {
+    if some_pass_moves(0, GRIDS) {
+        say(b"in some of these runs a pass cell moves\n");
+    } else {
+        say(b"in none of these runs a pass cell moves\n");
+    }
+}
+
+// Whether there is one in the runs from `start` on and below `end`.
+fn some_pass_moves(start: u64, end: u64) -> bool {
+    for n in start..end {
+        if drawn_agrees(Trial::Moves, n) {
+            return true;
+        }
+    }
+    false
 }
 
 // Prints on how many made-up grids, runs and outlines both listers agree.
@@ -92,7 +114,7 @@ fn counted(n: u64, yes: bool, agreed: u64) -> u64 {
     }
 }
 
-// Whether the grid or run of that number is as it must be.
+// Whether the grid or run of that number is as the trial says.
 fn drawn_agrees(trial: Trial, n: u64) -> bool {
     let mut heights = [0i32; CELLS];
     draw(trial, n, &mut heights);
@@ -110,7 +132,7 @@ fn draw(trial: Trial, n: u64, heights: &mut [i32; CELLS]) {
     }
 }
 
-// Whether a grid is as it must be; the column is there to be offered beyond it, and the levels for its outline.
+// Whether a grid is as the trial says; the column is there to be offered beyond it, and the levels for its outline.
 fn agrees(
     trial: Trial,
     rows: usize,
@@ -121,6 +143,7 @@ fn agrees(
 ) -> bool {
     match trial {
         Trial::Batches => batches::agree(rows, heights, threshold),
+        Trial::Moves => batches::differ_in_a_pass(rows, heights, threshold),
         Trial::Backwards => backwards::agrees(rows, heights, threshold),
         Trial::Refiled => refiled::agrees(rows, heights, threshold),
         Trial::Lists => lists::agree(rows, heights, threshold),

@@ -4,6 +4,11 @@ use second::BLANK;
 // The greatest number of cells of a made-up grid.
 pub const CELLS: usize = 40;
 
+// The kind of a grid is the remainder of its number by this; from the second one on all are divided.
+const KINDS: u64 = 7;
+
+const DIVIDED: u64 = 5;
+
 // One step of a shift register of 64 bits (xorshift).
 fn step(x: u64) -> u64 {
     let a = x ^ (x << 13);
@@ -24,12 +29,20 @@ pub fn rows_of(n: u64) -> usize {
 
 // The number of cells, whole columns and at most `CELLS`.
 pub fn cells_of(n: u64) -> usize {
-    let most = (draw(n, 41) % 41) as usize;
+    let most = most_of(n);
     let rows = rows_of(n);
     if rows == 0 {
         return 0;
     }
     most - most % rows
+}
+
+// The number of cells if columns need not be whole. A divided grid has as many as it can, for passes to move.
+fn most_of(n: u64) -> usize {
+    if n % KINDS >= DIVIDED {
+        return CELLS;
+    }
+    (draw(n, 41) % 41) as usize
 }
 
 // The cells of the grid, of those that were filled in.
@@ -62,7 +75,7 @@ pub fn levels_of(n: u64) -> u32 {
 // Fills in the heights: few values, many ties, blanks and the two extremes, by the kind of the grid.
 pub fn fill(n: u64, heights: &mut [i32; CELLS]) {
     for cell in 0..CELLS {
-        heights[cell] = height_of(n, draw(n, cell as u64));
+        heights[cell] = height_of(n, cell as u64, draw(n, cell as u64));
     }
 }
 
@@ -73,13 +86,15 @@ pub fn fill_apart(n: u64, heights: &mut [i32; CELLS]) {
     }
 }
 
-// A height of a grid of that number, by its draw.
-fn height_of(n: u64, drawn: u64) -> i32 {
-    match n % 4 {
+// The height of a cell of a grid of that number, by its draw.
+fn height_of(n: u64, cell: u64, drawn: u64) -> i32 {
+    match n % KINDS {
         0 => of_three(drawn),
         1 => of_six(drawn),
         2 => of_extremes(drawn),
-        _ => of_many(drawn),
+        3 => of_many(drawn),
+        4 => of_few(drawn),
+        _ => of_divided(rows_of(n) as u64, cell, drawn),
     }
 }
 
@@ -118,6 +133,37 @@ fn of_many(drawn: u64) -> i32 {
         return BLANK;
     }
     (drawn / 9 % 16) as i32
+}
+
+// Few heights, so far apart that most peaks are listed at most thresholds.
+fn of_few(drawn: u64) -> i32 {
+    match drawn % 9 {
+        0 | 1 | 2 => BLANK,
+        3 | 4 => 1000000000,
+        5 => 2000000000,
+        _ => 0,
+    }
+}
+
+// Low ground with hills and summits here and there, divided by row 1, which is blank but for a gate at its beginning, as
+// high as a hill. The gate is a peak that low ground touches on both sides, and its pass is on a side that leads to a
+// summit, often over hills. If that is the later side and a summit comes on the earlier one too, the pass moves there.
+fn of_divided(rows: u64, cell: u64, drawn: u64) -> i32 {
+    if cell == 1 {
+        return 0;
+    }
+    if rows != 0 && cell % rows == 1 {
+        return BLANK;
+    }
+    of_land(drawn)
+}
+
+fn of_land(drawn: u64) -> i32 {
+    match drawn % 15 {
+        0 | 1 => 1000000000,
+        2 => 0,
+        _ => -1000000000,
+    }
 }
 
 // A height that no other cell has: its remainder by 64 is the cell, and with its bits turned round it is below zero.

@@ -5,8 +5,7 @@ use Prim.Native.Nat.{_<_}
 use native.Mathlib.Omega.{arith}
 use denote.Ref.{now}
 use borrow.Author.Needs.{needs}
-use Rattle.area.specs.Area.{cellIn}
-use Rattle.sweep.specs.Sweep.{passOf}
+use Rattle.area.specs.Area.{passOf, cellIn}
 use Rattle.kin.specs.Inner.{firstIn, Filed}
 use Rattle.kin.proofs.Stores.{stored-peak}
 use Rattle.kin.proofs.hang.Statement.{statement}

@@ -7,8 +7,7 @@ use native.Mathlib.Omega.{arith}
 use denote.Ref.{now}
 use borrow.Author.Needs.{needs}
 use borrow.Author.Tests.{not-true, not-false}
-use Rattle.area.specs.Area.{parentIn, cellIn, markIn}
-use Rattle.sweep.specs.Sweep.{passOf}
+use Rattle.area.specs.Area.{parentIn, passOf, cellIn, markIn}
 use Rattle.kin.specs.Inner.{Put, left, put}
 use Rattle.kin.proofs.Stores.{stored-pass}
 use Rattle.kin.proofs.thread.Statement.{statement}

@@ -5,10 +5,10 @@ use Rattle.lent.proofs.records.equal.Statement.{statement}
 use Rattle.lent.proofs.records.equal.Tie as tie
 
 abbrev Inv-loop : tie.InvT-loop
-Inv-loop a i b j place₀ place = Unit {0}
+Inv-loop a i b j numbers place₀ place = Unit {0}
 
 abbrev μ-loop : tie.MeasureT-loop
-μ-loop a i b j place₀ place = 4 - place
+μ-loop a i b j numbers place₀ place = numbers - place
 
 pub equal-spec : {M : Type 1} → statement M
 equal-spec =

@@ -5,13 +5,13 @@ use Rattle.lent.proofs.records.same.Statement.{statement}
 use Rattle.lent.proofs.records.same.Tie as tie
 
 abbrev Inv-loop : tie.InvT-loop
-Inv-loop whole count parts total i₀ i = Unit {0}
+Inv-loop a count b total i₀ i = Unit {0}
 
 abbrev μ-loop : tie.MeasureT-loop
-μ-loop whole count parts total i₀ i = count - i
+μ-loop a count b total i₀ i = count - i
 
 pub same-spec : {M : Type 1} → statement M
 same-spec =
     tie.close
-    (tie.spec Inv-loop μ-loop (λ c. tt) (λ c. tt) (λ c. tt) (λ c κs. tt) (λ c. tt) (λ c. omega arith) (λ c. omega arith)
-    (λ c. tt) (λ c. tt))
+    (tie.spec Inv-loop μ-loop (λ c. tt) (λ c. tt) (λ c. tt) (λ c κs. tt) (λ c. tt) (λ c. omega arith)
+    (λ c. omega arith) (λ c. tt) (λ c. tt))

@@ -1,0 +1,10 @@
+pub mod Crowns  -- crowns and meshes
+pub mod Heads  -- where the way from a cell ends
+pub mod Changes  -- what is known while nothing is joined
+pub mod Meets  -- a better island looked at
+pub mod Leads  -- an island loses to a group
+pub mod Unites  -- two groups become one
+pub mod Under  -- what hangs under a group of a level that is taken
+pub mod Losses  -- crowns that have lost, once the level is taken
+pub mod Ends  -- a level that is all taken and looked at
+pub mod Settles  -- the cells of a level settled one after the other

@@ -1,0 +1,1 @@
+pub mod Groups  -- islands, groups of the cells of a level, what is known of them

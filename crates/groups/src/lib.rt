@@ -1,0 +1,1 @@
+// A level of cells in groups, and the islands that each leads over: mathematics alone.
