@@ -4,7 +4,7 @@ mod LevelPlaces  -- the cells of a level, and those above it, by their places
 mod LevelEnds  -- where a level ends
 mod Bases  -- what is known, told from another work area
 mod LevelTaken  -- the cells of a level taken
-mod Bits  -- the marks of pass numbers
+mod LevelAlone  -- the only cell of a level taken
 mod FoundRoots  -- roots stay where one is found
 mod CellTold  -- what settling a cell does to the work area
 mod CellSettled  -- a cell of a level settled
