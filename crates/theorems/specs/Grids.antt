@@ -1,5 +1,5 @@
--- The marked grids of section "Grids to check by" of document 01, and the outline of request (i) and the pass of request
--- (ii) of document 02, as one table. Assumes nothing.
+-- The marked grids of section "Grids to check by" of document 01, and the outline of request (i) and the pass of
+-- request (ii) of document 02, as one table. Assumes nothing.
 use mathlib.Core.{Path._≡_, List.List, List.[], List._∷_}
 use Prim.Native.Nat.{ℕ, suc, _*_}
 use lib.{IntN.ℤ, IntN.pos, IntN.negsuc, ListN.length}
