@@ -5,6 +5,7 @@ pub mod Changes  -- what is known while nothing is joined
 pub mod Grows  -- the cells of a level taken
 pub mod Meets  -- a better island looked at
 pub mod Leads  -- an island loses to a group
+pub mod LeadsAgain  -- one that has lost before is led over by another group
 pub mod Pends  -- groups up to their names
 pub mod Picks  -- two groups together
 pub mod Unites  -- two groups become one

@@ -51,25 +51,25 @@ fn digit(v: u32) -> u8
 fn digits(v: u32) -> usize
     ensures { λ r. ⌜ r ≡ length (decimalOf v) ⌝ }
 {
-    if v < 10 {
-        return 1;
-    }
-    if v < 100 {
-        return 2;
-    }
-    if v < 1000 {
-        return 3;
-    }
-    if v < 10000 {
-        return 4;
-    }
     if v < 100000 {
+        if v < 100 {
+            if v < 10 {
+                return 1;
+            }
+            return 2;
+        }
+        if v < 1000 {
+            return 3;
+        }
+        if v < 10000 {
+            return 4;
+        }
         return 5;
     }
-    if v < 1000000 {
-        return 6;
-    }
     if v < 10000000 {
+        if v < 1000000 {
+            return 6;
+        }
         return 7;
     }
     if v < 100000000 {
@@ -88,10 +88,17 @@ fn put_digits(text: &mut [u8], at: usize, count: usize, v: u32)
 {
     let mut place = at + count;
     let mut rest = v;
-    while 10 <= rest {
-        place -= 1;
-        text[place] = digit(rest % 10);
-        rest = rest / 10;
+    while 100 <= rest {
+        let pair = rest % 100;
+        place -= 2;
+        text[place + 1] = digit(pair % 10);
+        text[place] = digit(pair / 10);
+        rest = rest / 100;
+    }
+    if 10 <= rest {
+        text[at + 1] = digit(rest % 10);
+        text[at] = digit(rest / 10);
+        return;
     }
     text[at] = digit(rest);
 }

@@ -1,12 +1,13 @@
 -- Tests that compute, and what they decide: each test of this crate is a Bool with a law that says what it tells.
 --     split s f g              goes by the two cases of a sum
+--     cond-true, cond-false    the first or the second
 --     and, or, not             decide a pair, a sum, a negation
 --     anyBelow n f, allBelow   decide whether some or each number below n passes the test f
 --     firstFrom k i f          the first of the k numbers from i on that passes, or i + k
 --     topBelow n f v           the greatest v i of those i below n that pass, or 0
 -- Assumes nothing.
 use mathlib.Core.Path.{_≡_, refl, sym, ap, _∙_, subst}
-use mathlib.Core.Bool.{Bool, true, false, not, _&&_, _||_}
+use mathlib.Core.Bool.{Bool, true, false, cond, not, _&&_, _||_}
 use mathlib.Core.Logic.{_⊎_, inl, inr}
 use Prim.Native.Nat.{ℕ, zero, suc, max, _+_, _≤_, _<_, zero-le}
 use native.Mathlib.Nat.{not-suc-le-zero}
@@ -19,6 +20,12 @@ use Rattle.relief.specs.Inner.{Decides}
 pub split : {A B C : Type 0} → A ⊎ B → (A → C) → (B → C) → C
 split (inl a) f g = f a
 split (inr b) f g = g b
+
+pub cond-true : (b : Bool) (u v : ℕ) → b ≡ true → cond b u v ≡ u
+cond-true b u v e = simp e
+
+pub cond-false : (b : Bool) (u v : ℕ) → b ≡ false → cond b u v ≡ v
+cond-false b u v e = simp e
 
 -- the two cases of a decided statement, and of a test
 pub decide : {A : Type 0} {b : Bool} → Decides A b → A ⊎ (A → ⊥)
@@ -61,6 +68,17 @@ and-true false b e = true-not-false e refl
 pub or-false : (a b : Bool) → (a || b) ≡ false → (a ≡ false) × (b ≡ false)
 or-false true b e = true-not-false refl e
 or-false false b e = (refl, e)
+
+pub or-true : {a b : Bool} → (a || b) ≡ true → (a ≡ true) ⊎ (b ≡ true)
+or-true {a = true} e = inl refl
+or-true {a = false} e = inr e
+
+pub or-left : (a b : Bool) → a ≡ true → (a || b) ≡ true
+or-left a b e = rw e refl
+
+pub or-right : (a b : Bool) → b ≡ true → (a || b) ≡ true
+or-right true b e = refl
+or-right false b e = e
 
 pub and-decides : {A B : Type 0} {a b : Bool} → Decides A a → Decides B b → Decides (A × B) (a && b)
 and-decides {a = true} p q = record {

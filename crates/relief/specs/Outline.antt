@@ -1,5 +1,5 @@
--- The outline of lesser peaks under greater ones: request (i) of document 02, over any way of touching. What the request
--- calls a level is a depth here, since a level is what a cell has (`Heights`). Assumes nothing.
+-- The outline of lesser peaks under greater ones: request (i) of document 02, over any way of touching. What the
+-- request calls a level is a depth here, since a level is what a cell has (`Heights`). Assumes nothing.
 use mathlib.Core.{Path._≡_, Bool.cond, List.List, List.[], List._∷_, List._++_, Logic._⊎_}
 use Prim.Native.Nat.{ℕ, zero, suc, _+_, _-_, _/_, _%_, _≤_, _<_}
 use lib.{Dec.ltb, IntN.ℤ, IntN.pos, IntN.negsuc, ListN.length}

@@ -4,7 +4,7 @@
 use denote.Ref.{now}
 use borrow.Author.Needs.{needs}
 use Rattle.area.specs.Area.{levelIn}
-use Rattle.taking.proofs.PlanePlaces.{cut-terrain}
+use Rattle.places.proofs.PlanePlaces.{cut-terrain}
 use Rattle.kin.proofs.Uppers.{uppers-hanging}
 use Rattle.kin.proofs.LinkedRows.{rows-threading}
 use Rattle.kin.proofs.Kinship.{kin-linked, kin-blank}

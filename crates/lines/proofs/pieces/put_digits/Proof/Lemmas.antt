@@ -2,9 +2,9 @@
 --     Digits s at v t place rest     the digits of v are those of the rest, which belong at `at`, and some behind them;
 --                                    t is s with those behind them at their place
 --     digits-place, digits-fits, digits-length    a digit is left; those laid fit; the length stays
---     digits-start, digits-step, digits-done      the loop begins, goes on, ends
+--     digits-start, digits-pair, digits-one, digits-two    the loop begins, goes on, ends with a digit or with two
 -- Assumes nothing.
-use mathlib.Core.Path.{_≡_, sym, ap, _∙_}
+use mathlib.Core.Path.{_≡_, refl, sym, ap, _∙_, subst, subst₂}
 use mathlib.Core.List.{List, [], _∷_, _++_, append-nil}
 use Prim.Native.Nat.{ℕ, suc, _+_, _-_, _/_, _%_, _≤_, _<_}
 use native.Mathlib.Decide.{decLt}
@@ -52,7 +52,7 @@ module _ {s : List ℕ} {at v : ℕ} {t : List ℕ} {place rest : ℕ} (d : Digi
   ahead before b e =
       ap (λ (u : List ℕ). set u before b) (d .laid) ∙ over-ahead s before place b (d .behind) e digits-fits
 
-  pub digits-step : 10 ≤ rest → {b : ℕ} → b ≡ 48 + rest % 10
+  digits-step : 10 ≤ rest → {b : ℕ} → b ≡ 48 + rest % 10
       → Digits s at v (set t (place - 1) b) (place - 1) (rest / 10)
   digits-step l {b} e =
       let last = length-more rest l in
@@ -68,11 +68,35 @@ module _ {s : List ℕ} {at v : ℕ} {t : List ℕ} {place rest : ℕ} (d : Digi
         laid = ahead (place - 1) b (omega arith);
       }
 
-  pub digits-done : rest < 10 → {b : ℕ} → b ≡ 48 + rest → set t at b ≡ over s at (decimalOf v)
-  digits-done l {b} e =
+  pub digits-one : rest < 10 → {b : ℕ} → b ≡ 48 + rest → set t at b ≡ over s at (decimalOf v)
+  digits-one l {b} e =
       let last : place ≡ suc at = omega (arith, d .near, decimal-one rest l) in
       let whole : b ∷ d .behind ≡ decimalOf v =
       ap (λ (x : ℕ). x ∷ d .behind) e
       ∙ ap (λ (k : List ℕ). k ++ d .behind) (sym (decimal-small rest l))
       ∙ sym (d .split) in
       ahead at b last ∙ ap (over s at) whole
+
+-- two digits, the last of them first
+module _ {s : List ℕ} {at v : ℕ} {t : List ℕ} {place rest : ℕ} (d : Digits s at v t place rest) where
+  pub place-two : 10 ≤ rest → at + 1 < place
+  place-two l = omega (arith, d .near, length-more rest l, digits-place (digits-step d l refl))
+
+  pub digits-pair : 100 ≤ rest → {a b : ℕ} → b ≡ 48 + rest % 100 % 10 → a ≡ 48 + rest % 100 / 10
+      → Digits s at v (set (set t (place - 2 + 1) b) (place - 2) a) (place - 2) (rest / 100)
+  digits-pair l {a} {b} eb ea =
+      let p = place-two (omega arith) in
+      let e : place - 1 ≡ place - 2 + 1 = omega arith in
+      let f : place - 1 - 1 ≡ place - 2 = omega arith in
+      let g : rest / 10 / 10 ≡ rest / 100 = omega arith in
+      let one = digits-step d (omega arith) {b = b} (omega arith) in
+      let two = digits-step one (omega arith) {b = a} (omega arith) in
+      subst (λ (i : ℕ). Digits s at v (set (set t i b) (place - 2) a) (place - 2) (rest / 100)) e
+      (subst₂ (λ (j r : ℕ). Digits s at v (set (set t (place - 1) b) j a) j r) f g two)
+
+  pub digits-two : 10 ≤ rest → rest < 100 → {a b : ℕ} → b ≡ 48 + rest % 10 → a ≡ 48 + rest / 10
+      → set (set t (at + 1) b) at a ≡ over s at (decimalOf v)
+  digits-two l m {a} {b} eb ea =
+      let one = digits-step d l {b = b} eb in
+      let e : place - 1 ≡ at + 1 = omega (arith, one .near, decimal-one (rest / 10) (omega arith)) in
+      subst (λ (i : ℕ). set (set t i b) at a ≡ over s at (decimalOf v)) e (digits-one one (omega arith) ea)

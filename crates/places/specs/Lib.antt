@@ -1,0 +1,1 @@
+pub mod Places  -- eight places around a cell
