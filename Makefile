@@ -7,10 +7,10 @@
 .PHONY: test run bench layout pages tools peaks outlines
 
 test:
-	@echo "test: layout, pages, tools, C++ tests, the programs' files, then all proofs; 25 to 40 minutes" >&2
+	@echo "test: layout, pages, tools, C++ tests, the programs' files, then all proofs; 25 to 35 minutes" >&2
 	@$(MAKE) --no-print-directory cpp-tools
 	@$(MAKE) --no-print-directory -j3 -Oline layout pages tools cpp-test peaks outlines
-	@echo "test: proving every crate from nothing and trying every must-fail edit; 20 to 35 minutes" >&2
+	@echo "test: proving every crate from nothing and trying every must-fail edit; 20 to 30 minutes" >&2
 	@RT_JOBS=$${RT_JOBS:-4} python3 tests/edits/gate.py
 
 # Of jobs that run beside each other, one at a time may prove: rt writes to target/.
