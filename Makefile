@@ -1,20 +1,27 @@
 # make run proves and builds the programs that read a run file, and shows what they print of a grid of three rows: its
 # list, then its outline.
 # make test runs everything that can fail, the proofs last; its last line is 'N passed, 0 failed'.
-# make bench compares the library with plain C++: the list, the outline, the run file; a column call and an outline also
-# with a list.
+# make bench compares the library with plain C++: the list, the outline, the account and its check, the run file; a
+# column call, an outline and an account also with a list.
 # Each says on standard error what it is doing and for how long; the times are those of two cores.
-.PHONY: test run bench layout pages tools peaks outlines
+.PHONY: test proved run bench layout pages tools peaks outlines
 
 test:
-	@echo "test: layout, pages, tools, C++ tests, the programs' files, then all proofs; 25 to 35 minutes" >&2
+	@echo "test: layout, pages, tools, C++ tests, the programs' files, then all proofs; 30 to 50 minutes" >&2
 	@$(MAKE) --no-print-directory cpp-tools
-	@$(MAKE) --no-print-directory -j3 -Oline layout pages tools cpp-test peaks outlines
-	@echo "test: proving every crate from nothing and trying every must-fail edit; 20 to 30 minutes" >&2
-	@RT_JOBS=$${RT_JOBS:-4} python3 tests/edits/gate.py
+	@$(MAKE) --no-print-directory -j3 -Oline layout pages tools proved
+	@$(MAKE) --no-print-directory -j3 -Oline cpp-test peaks outlines
+	@echo "test: proving every crate from nothing and trying every must-fail edit; 25 to 40 minutes" >&2
+	@python3 tests/edits/gate.py
 
 # Of jobs that run beside each other, one at a time may prove: rt writes to target/.
 PROVE = mkdir -p target && flock target/prove.lock rt
+
+# What the programs and the archives of the C++ tests stand on, in one call, so that rt proves crates beside each other.
+proved:
+	@mkdir -p target
+	@$(PROVE) check peaks outlines account runfile > target/proved.log 2>&1 || { cat target/proved.log >&2; exit 1; }
+	@echo "proved: what the programs and archives stand on"
 
 # rt runs each program on the file stdin of its crate, on any processor, and keeps what it printed. Of what rt says, the
 # lines on each crate are shown, and all of it if something is not proved.

@@ -5,9 +5,9 @@
 #     cpp-example       builds and runs the example, and compares what it prints
 #     cpp-suite         builds and runs the hard test of the C entry
 #     cpp-column        builds and runs the test of the column call at its limits
-#     cpp-small         library and plain C++ agree on small grids, runs, files and outlines
+#     cpp-small         library and plain C++ agree on small grids, runs, files, outlines and accounts
 #     cpp-bench         times the library against plain C++; under an emulator it is cpp-instructions
-#     cpp-instructions  instructions per cell of lists and outlines, counted by the emulator
+#     cpp-instructions  instructions per cell of lists, outlines and accounts, counted by the emulator
 #     cpp-tools         installs what cpp-test and cpp-bench need and the machine lacks, by apt-get: on x86-64 g++; on
 #                       another processor g++-x86-64-linux-gnu, qemu-user and g++
 #
@@ -24,6 +24,7 @@ CPP_METER ?= target/staticlib/libmeter.a
 CPP_OUT := target/cpp
 CPP_FLAGS := -std=c++17 -O2 -Wall -Wextra -Wpedantic -Iinclude
 CPP_REFERENCE := bench/places.hpp bench/reference.hpp bench/sweep.hpp
+CPP_TABLES := bench/instructions.hpp bench/tables.hpp bench/times.hpp
 
 # What depends on a tool is worked out when it is used, so that `make cpp-tools cpp-test` finds what was installed.
 CPP_EMULATOR = $(shell command -v qemu-x86_64 || command -v qemu-x86_64-static || echo qemu-x86_64)
@@ -72,32 +73,38 @@ cpp-suite: $(CPP_OUT)/suite_test
 cpp-column: $(CPP_OUT)/column_test
 	@printf 'column at its limits$(CPP_HOW): '; $(CPP_RUN) $<
 
-cpp-small: $(CPP_OUT)/bench $(CPP_OUT)/calls $(CPP_OUT)/outlines
+cpp-small: $(CPP_OUT)/bench $(CPP_OUT)/calls $(CPP_OUT)/outlines $(CPP_OUT)/accounts
 	@printf 'benchmark$(CPP_HOW): '; $(CPP_RUN) $(CPP_OUT)/bench --small
 	@printf 'benchmark of calls$(CPP_HOW): '; $(CPP_RUN) $(CPP_OUT)/calls --small
 	@printf 'benchmark of outlines$(CPP_HOW): '; $(CPP_RUN) $(CPP_OUT)/outlines --small
+	@printf 'benchmark of accounts$(CPP_HOW): '; $(CPP_RUN) $(CPP_OUT)/accounts --small
 
 ifeq ($(CPP_MACHINE),x86_64)
-cpp-bench: $(CPP_OUT)/bench $(CPP_OUT)/calls $(CPP_OUT)/outlines
+cpp-bench: $(CPP_OUT)/bench $(CPP_OUT)/calls $(CPP_OUT)/outlines $(CPP_OUT)/accounts
 	@$(CPP_OUT)/bench
 	@echo
-	@python3 bench/callgrind.py $(CPP_OUT)/bench
+	@python3 bench/callgrind.py list $(CPP_OUT)/bench
 	@echo
 	@$(CPP_OUT)/calls
 	@echo
 	@$(CPP_OUT)/outlines
+	@echo
+	@$(CPP_OUT)/accounts
+	@echo
+	@python3 bench/callgrind.py accounts $(CPP_OUT)/accounts
 else
 cpp-bench: cpp-instructions
 endif
 
 # An emulator that was linked statically takes no plugin; the benchmark then has no counter, and says so. The processor
 # is named because newer ones move memory by instructions that the emulator counts anew for each byte.
-cpp-instructions: $(CPP_OUT)/bench $(CPP_OUT)/outlines $(CPP_OUT)/example $(CPP_OUT)/libcounter.so
+cpp-instructions: $(CPP_OUT)/bench $(CPP_OUT)/outlines $(CPP_OUT)/accounts $(CPP_OUT)/example $(CPP_OUT)/libcounter.so
 	@command -v $(CPP_EMULATOR) > /dev/null || { echo "qemu-x86_64 is missing; Debian: qemu-user" >&2; exit 1; }
 	@plugin='-plugin $(CPP_OUT)/libcounter.so'; \
 	$(CPP_EMULATE) $$plugin $(CPP_OUT)/example > $(CPP_OUT)/plugin.log 2>&1 || plugin=; \
 	$(CPP_EMULATE) -cpu qemu64 $$plugin $(CPP_OUT)/bench --work && echo && \
-	$(CPP_EMULATE) -cpu qemu64 $$plugin $(CPP_OUT)/outlines --work
+	$(CPP_EMULATE) -cpu qemu64 $$plugin $(CPP_OUT)/outlines --work && echo && \
+	$(CPP_EMULATE) -cpu qemu64 $$plugin $(CPP_OUT)/accounts --work
 
 $(CPP_OUT)/example: examples/suite/example.cpp include/mayexoton.h $(CPP_OUT)/libsuite.a | cpp-ready
 	@$(CPP_CXX) $(CPP_FLAGS) $< $(CPP_OUT)/libsuite.a -o $@
@@ -119,9 +126,15 @@ $(CPP_OUT)/calls: bench/calls.cpp bench/batches.hpp bench/grids.hpp bench/lent.h
     $(CPP_OUT)/libmeter.a | cpp-ready
 	@$(CPP_CXX) $(CPP_FLAGS) $< $(CPP_OUT)/libsuite.a $(CPP_OUT)/libmeter.a -o $@
 
-$(CPP_OUT)/outlines: bench/outlines.cpp bench/grids.hpp bench/instructions.hpp bench/lent.hpp bench/made_up.hpp \
-    bench/meter.hpp bench/outline.hpp $(CPP_REFERENCE) bench/times.hpp tests/suite/definitions.hpp \
-    include/mayexoton.h $(CPP_OUT)/libsuite.a $(CPP_OUT)/libmeter.a | cpp-ready
+$(CPP_OUT)/outlines: bench/outlines.cpp bench/grids.hpp bench/lent.hpp bench/made_up_grids.hpp \
+    bench/made_up_outlines.hpp bench/meter.hpp bench/outline.hpp $(CPP_REFERENCE) $(CPP_TABLES) \
+    tests/suite/definitions.hpp include/mayexoton.h $(CPP_OUT)/libsuite.a $(CPP_OUT)/libmeter.a | cpp-ready
+	@$(CPP_CXX) $(CPP_FLAGS) -Itests/suite $< $(CPP_OUT)/libsuite.a $(CPP_OUT)/libmeter.a -o $@
+
+$(CPP_OUT)/accounts: bench/accounts.cpp bench/account.hpp bench/grids.hpp bench/lent.hpp bench/made_up_accounts.hpp \
+    bench/made_up_claims.hpp bench/made_up_grids.hpp bench/meter.hpp $(CPP_REFERENCE) $(CPP_TABLES) \
+    tests/suite/accounts.hpp tests/suite/definitions.hpp include/mayexoton.h $(CPP_OUT)/libsuite.a \
+    $(CPP_OUT)/libmeter.a | cpp-ready
 	@$(CPP_CXX) $(CPP_FLAGS) -Itests/suite $< $(CPP_OUT)/libsuite.a $(CPP_OUT)/libmeter.a -o $@
 
 # For this machine, as the emulator is.

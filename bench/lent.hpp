@@ -12,8 +12,9 @@ namespace lent {
 
 using Bytes = std::vector<std::uint8_t>;
 
-// What no call may touch holds this.
+// What no call may touch holds one of these. The number is no cell.
 constexpr std::uint8_t untouched_byte = 0x5a;
+constexpr std::uint32_t untouched_number = 0xffffffff;
 
 template <typename Value> bool same(const std::vector<Value> &a, const std::vector<Value> &b) {
     return a.size() == b.size() && (a.empty() || std::memcmp(a.data(), b.data(), a.size() * sizeof(Value)) == 0);
@@ -27,11 +28,18 @@ template <typename Value> const std::uint8_t *bytes(const std::vector<Value> &va
     return reinterpret_cast<const std::uint8_t *>(values.data());
 }
 
-// A room of so many bytes with the text at its front, the rest untouched. The text has room.
-inline Bytes room_with(const std::string &text, std::size_t length) {
-    Bytes room(length, untouched_byte);
-    std::copy(text.begin(), text.end(), room.begin());
-    return room;
+// So many values with those at their front, the rest untouched. They have room.
+template <typename Value, typename Front>
+std::vector<Value> filled(const Front &front, std::size_t length, Value untouched) {
+    std::vector<Value> values(length, untouched);
+    std::copy(front.begin(), front.end(), values.begin());
+    return values;
+}
+
+inline Bytes room_with(const std::string &text, std::size_t length) { return filled(text, length, untouched_byte); }
+
+inline std::vector<std::uint32_t> row_with(const std::vector<std::uint32_t> &numbers, std::size_t length) {
+    return filled(numbers, length, untouched_number);
 }
 
 } // namespace lent

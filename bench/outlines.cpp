@@ -3,15 +3,14 @@
 //     outlines           times the three at three sizes and prints a table
 //     outlines --work    the same for an emulator, where a time says nothing: counts instructions (counter.cpp), and
 //                        where nobody counts prints the emulator's own time, for its ratios
-//     outlines --small   only checks the library's outlines of small grids, by the definitions (made_up.hpp) and by
-//                        plain C++, and one of the greatest grid
+//     outlines --small   only checks the library's outlines of small grids, by the definitions (made_up_outlines.hpp)
+//                        and by plain C++, and one of the greatest grid
 //     outlines --one KIND SIZE WHO TURNS
 //                        makes one of the three so many times, for who looks where instructions go; KIND is the number
 //                        of the kind, WHO outline, list or reference
 //
 // Every text is compared with that of plain C++; a difference ends the program with status 1.
 
-#include <algorithm>
 #include <array>
 #include <cinttypes>
 #include <cstddef>
@@ -25,11 +24,12 @@
 #include "grids.hpp"
 #include "instructions.hpp"
 #include "lent.hpp"
-#include "made_up.hpp"
+#include "made_up_outlines.hpp"
 #include "mayexoton.h"
 #include "meter.hpp"
 #include "outline.hpp"
 #include "reference.hpp"
+#include "tables.hpp"
 #include "times.hpp"
 
 static_assert(__BYTE_ORDER__ == __ORDER_LITTLE_ENDIAN__, "the benchmark needs a little-endian machine");
@@ -41,7 +41,6 @@ namespace {
 using grids::Heights;
 using lent::bytes;
 
-constexpr std::array<std::uint32_t, 3> sizes{256, 512, 1024};
 constexpr std::uint32_t most_levels = 64;
 
 // ---- one grid, outlined twice and listed
@@ -119,7 +118,7 @@ Cost per_cell(const Contest &contest, double outline, double list, double refere
 Cost cost_in_time(const grids::Kind &kind, std::uint32_t size) {
     const Heights heights = kind.make(size, size);
     Contest contest(kind.name, size, heights, 1, most_levels);
-    const int turns = size < 512 ? 31 : size < 1024 ? 15 : 9;
+    const int turns = tables::turns_at(size);
     const auto check = [&] { contest.require_agreement(); };
     const auto outline = [&] { contest.run_outline(); };
     const times::Medians by_list = times::in_turn(turns, outline, [&] { contest.run_list(); }, check);
@@ -141,46 +140,25 @@ Cost cost_in_instructions(const grids::Kind &kind, std::uint32_t size) {
 
 // ---- tables
 
-void print_sizes() {
-    for (const std::uint32_t size : sizes) std::printf(" %6" PRIu32, size);
-    std::printf(" |");
-}
-
-template <typename Value> void print_each(const std::array<Cost, sizes.size()> &costs, const char *form, Value value) {
-    for (const Cost &each : costs) std::printf(form, value(each));
-    std::printf(" |");
-}
-
 int print_costs(const char *unit, Costing cost) {
     std::printf("%s per cell; square grids, threshold 1, %" PRIu32 " levels; outline / list wanted: at most 1.6\n\n",
                 unit, most_levels);
     std::printf("%-13s %7s %8s |%21s |%21s |%21s |%21s |\n", "", "", "", "outline", "list", "outline / list",
                 "outline in plain C++");
     std::printf("%-13s %7s %8s |", "kind", "peaks", "bytes");
-    for (int i = 0; i < 4; ++i) print_sizes();
+    for (int i = 0; i < 4; ++i) tables::print_sizes();
     std::printf("\n");
     for (const grids::Kind &kind : grids::kinds) {
-        std::array<Cost, sizes.size()> costs{};
-        std::transform(sizes.begin(), sizes.end(), costs.begin(), [&](std::uint32_t size) { return cost(kind, size); });
+        const auto costs = tables::costs_of([&](std::uint32_t size) { return cost(kind, size); });
         std::printf("%-13s %7" PRId64 " %8zu |", kind.name, costs.back().peaks, costs.back().text_bytes);
-        print_each(costs, " %6.1f", [](const Cost &each) { return each.outline; });
-        print_each(costs, " %6.1f", [](const Cost &each) { return each.list; });
-        print_each(costs, " %6.2f", [](const Cost &each) { return each.ratio(); });
-        print_each(costs, " %6.1f", [](const Cost &each) { return each.reference; });
+        tables::print_each(costs, " %6.1f", [](const Cost &each) { return each.outline; });
+        tables::print_each(costs, " %6.1f", [](const Cost &each) { return each.list; });
+        tables::print_each(costs, " %6.2f", [](const Cost &each) { return each.ratio(); });
+        tables::print_each(costs, " %6.1f", [](const Cost &each) { return each.reference; });
         std::printf("\n");
         std::fflush(stdout);
     }
     return EXIT_SUCCESS;
-}
-
-int print_times() { return print_costs("nanoseconds of processor time, medians,", cost_in_time); }
-
-int print_work() {
-    if (instructions::Counter().counts()) {
-        return print_costs("x86-64 instructions, counted by the emulator,", cost_in_instructions);
-    }
-    return print_costs("EMULATED: nanoseconds under the emulator, which stand for work done and not for time,",
-                       cost_in_time);
 }
 
 // ---- agreement on small grids
@@ -203,7 +181,7 @@ std::size_t check_kind(const grids::Kind &kind, std::uint32_t rows, std::uint32_
 }
 
 void check_greatest() {
-    const std::uint32_t size = sizes.back();
+    const std::uint32_t size = tables::sizes.back();
     const grids::Kind &kind = grids::kinds.front();
     const Heights heights = kind.make(size, size);
     Contest contest(kind.name, size, heights, 1, most_levels);
@@ -253,8 +231,10 @@ int usage() {
 
 int main(int argc, char **argv) {
     const std::string_view option = argc >= 2 ? argv[1] : "";
-    if (argc == 1) return print_times();
-    if (argc == 2 && option == "--work") return print_work();
+    if (argc == 1) return tables::print_times<Costing>(print_costs, cost_in_time);
+    if (argc == 2 && option == "--work") {
+        return tables::print_work<Costing>(print_costs, cost_in_time, cost_in_instructions);
+    }
     if (argc == 2 && option == "--small") return check_small();
     if (argc == 6 && option == "--one") {
         const auto kind = static_cast<std::size_t>(std::atoi(argv[2]));

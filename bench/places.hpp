@@ -2,6 +2,7 @@
 #pragma once
 
 #include <array>
+#include <cstddef>
 #include <cstdint>
 
 namespace reference {
@@ -16,6 +17,20 @@ using Places = unsigned;
 constexpr unsigned all_places = 8;
 constexpr Places upper = 0x29, lower = 0x94, before = 0x07, behind = 0xe0;
 constexpr Places earlier = 0x0f; // where cells have smaller numbers than the one in the middle
+
+using Offsets = std::array<std::uint32_t, all_places>;
+
+// From a cell to those around it.
+inline Offsets offsets_of(std::uint32_t rows) {
+    return {0u - rows - 1, 0u - rows, 0u - rows + 1, 0u - 1, 1, rows - 1, rows, rows + 1};
+}
+
+// The places around a cell where the grid has none.
+[[gnu::always_inline]] inline Places missing_around(std::uint32_t cell, std::uint32_t rows, std::size_t cells) {
+    const std::uint32_t row = cell % rows;
+    return (row == 0 ? upper : 0) | (row + 1 == rows ? lower : 0) | (cell < rows ? before : 0) |
+           (cell + rows >= cells ? behind : 0);
+}
 
 constexpr bool touch(unsigned a, unsigned b) {
     const int place = static_cast<int>(a < 4 ? a : a + 1), other = static_cast<int>(b < 4 ? b : b + 1); // of nine

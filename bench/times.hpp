@@ -1,9 +1,11 @@
-// How long two pieces of a program take, run in turn.
+// How long pieces of a program take, run in turn.
 #pragma once
 
 #include <algorithm>
+#include <array>
 #include <cstddef>
 #include <ctime>
+#include <functional>
 #include <vector>
 
 namespace times {
@@ -29,21 +31,29 @@ struct Medians {
     double ratio() const { return first / second; }
 };
 
-// Runs both in turn, so that what else the machine does meets both alike, and changes who begins. What they leave is
+// Runs all in turn, so that what else the machine does meets all alike, and changes who begins. What they leave is
 // checked after each turn.
-template <typename First, typename Second, typename Check>
-Medians in_turn(int turns, First first, Second second, Check check) {
-    first(); // once untimed: the first touch of the lent memory is the system's work
-    second();
+template <std::size_t Count, typename Check>
+std::array<double, Count> all_in_turn(int turns, const std::array<std::function<void()>, Count> &runs, Check check) {
+    for (const std::function<void()> &run : runs) run(); // once untimed: the first touch of memory is the system's work
     check();
-    std::vector<double> first_times, second_times;
+    std::array<std::vector<double>, Count> taken;
     for (int turn = 0; turn < turns; ++turn) {
-        if (turn % 2 == 0) first_times.push_back(nanoseconds(first));
-        second_times.push_back(nanoseconds(second));
-        if (turn % 2 == 1) first_times.push_back(nanoseconds(first));
+        for (std::size_t i = 0; i < Count; ++i) {
+            const std::size_t who = (static_cast<std::size_t>(turn) + i) % Count;
+            taken[who].push_back(nanoseconds(runs[who]));
+        }
         check();
     }
-    return {median(first_times), median(second_times)};
+    std::array<double, Count> medians{};
+    std::transform(taken.begin(), taken.end(), medians.begin(), median);
+    return medians;
+}
+
+template <typename First, typename Second, typename Check>
+Medians in_turn(int turns, First first, Second second, Check check) {
+    const std::array<double, 2> medians = all_in_turn<2>(turns, {first, second}, check);
+    return {medians[0], medians[1]};
 }
 
 } // namespace times

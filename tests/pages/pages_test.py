@@ -52,6 +52,8 @@ for call, rule in (
     ("run::column", "Column"),
     ("run::end", "End"),
     ("outline::outline", "Outline"),
+    ("account::account", "Account"),
+    ("account::check", "Check of an account"),
     ("runfile::write", "Write a file"),
     ("runfile::read", "Read a file"),
 ):
@@ -59,7 +61,7 @@ for call, rule in (
 
 # What a reader must believe of the definitions is short. No promise cites what stands in Inner.antt.
 believed = set(ROOT.glob("crates/relief/specs/*.antt")) - {ROOT / "crates/relief/specs/Inner.antt"}
-assert sum(len(specs.read_text().splitlines()) for specs in believed) <= 400
+assert sum(len(specs.read_text().splitlines()) for specs in believed) <= 480
 
 # Each must-fail edit says where it is refused. Each edit, claim and public function that a page names is there.
 edits = set()
@@ -83,7 +85,7 @@ for name in ("docs/PROMISES.md", "docs/MAP.md"):
     assert named and not missing, missing
 
 # The edit that CONTRIBUTING.md shows is one of them.
-shown = page("crates/layout/must-fail/put_peak_puts_the_pass_behind_the_record.edit")
+shown = page("crates/survey/must-fail/key_level_tells_the_peaks_own_level.edit")
 assert "".join(f"    {line}\n" for line in shown.splitlines()) in page("CONTRIBUTING.md")
 
 # Each definition that docs/MAP.md names stands in the specs/ of the crate before it.

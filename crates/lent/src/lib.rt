@@ -1,4 +1,5 @@
-// The public calls, lent real rows of records and text rooms, and the second lister asked beside them.
+// The public calls, lent real rows of records, rooms for text and accounts, and the second lister asked beside them.
+pub mod accounts; // accounts.rt: the account of a peak and its check, both listers asked
 pub mod answers; // answers.rt: one place where answers come from, both listers asked
 pub mod files; // files.rt: the run file, written and read
 pub mod first; // first.rt: the first lister's calls, its records as the second one's

@@ -1,2 +1,2 @@
-pub mod Answers  -- what the tests tell
+pub mod Answers  -- a grid that passed its tests, surveyed
 pub mod Claims  -- a proof of each claim

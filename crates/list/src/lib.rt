@@ -1,25 +1,11 @@
 // The whole-grid call: the flat core behind the refusals, and the lent row of records filled from it.
-ghost use mathlib.Core.Path.{_≡_};
 ghost use lib.ListN.{length};
-ghost use Rattle.record.specs.Refusals.{firstOf};
-ghost use Rattle.list.specs.Promises.{listTests, Lists};
-ghost use Rattle.list.specs.Inner.{ListsFlat, GoodGrid};
-use record::Cell;
+ghost use Rattle.heights.specs.Inner.{GoodGrid};
+ghost use Rattle.list.specs.Promises.{Lists};
+ghost use Rattle.list.specs.Inner.{ListsFlat};
 use record::Checked;
 use record::Handed;
 use record::Peak;
-use record::Refusal;
-
-// The tests before the work, in the paper's order.
-fn check(rows: u32, cells: usize, work: usize) -> Checked
-    ensures { λ r. ⌜ r ≡ firstOf (listTests rows cells work) ⌝ }
-{
-    let uneven = record::uneven(cells, words::index(rows));
-    let checked = record::then_test(Checked::Good, record::bad_rows(rows), Refusal::Rows);
-    let checked = record::then_test(checked, uneven, Refusal::Length);
-    let checked = record::then_test(checked, Cell::MAX_CELLS < cells, Refusal::Cells);
-    record::then_test(checked, record::short_work(work, cells), Refusal::Work)
-}
 
 // The list of a grid that passed the tests before the work.
 fn flat_good(rows: u32, heights: &[i32], threshold: u32, work: &mut [u8], room: usize) -> Handed
@@ -27,7 +13,7 @@ fn flat_good(rows: u32, heights: &[i32], threshold: u32, work: &mut [u8], room: 
     ensures { λ r. ⌜ ListsFlat rows (now (heights .entry)) threshold (now (work .entry)) room (now (work .exit)) r ⌝ }
 {
     let n = heights.len();
-    survey::load(work, heights, n);
+    heights::load(work, heights, n);
     let count = survey::whole(work, n, words::index(rows), threshold);
     table::room_answer(count, room)
 }
@@ -36,7 +22,7 @@ fn flat_good(rows: u32, heights: &[i32], threshold: u32, work: &mut [u8], room: 
 pub fn flat(rows: u32, heights: &[i32], threshold: u32, work: &mut [u8], room: usize) -> Handed
     ensures { λ r. ⌜ ListsFlat rows (now (heights .entry)) threshold (now (work .entry)) room (now (work .exit)) r ⌝ }
 {
-    let checked = check(rows, heights.len(), work.len());
+    let checked = heights::check(rows, heights.len(), work.len());
     match checked {
         Checked::Bad(refusal) => Handed::Refused(refusal),
         Checked::Good => flat_good(rows, heights, threshold, work, room),

@@ -1,6 +1,6 @@
 -- The claims hold: the batch of the definition is one (`order-unique` of `relief`), so is the outline (`outline-unique`
--- of `outline`), so is what is written (`write-unique` of `runfile`), and so is the answer to a file (`answers-unique` of
--- `layout`). Assumes nothing.
+-- of `outline`), so are account and verdict (`account-unique`, `check-unique` of `account`), so is what is written
+-- (`write-unique` of `runfile`), and so is the answer to a file (`answers-unique` of `layout`). Assumes nothing.
 use mathlib.Core.List.{_++_}
 use mathlib.Core.Path.{_≡_, sym, ap, _∙_}
 use lib.IntN.{ℤ}
@@ -9,6 +9,10 @@ use Rattle.relief.proofs.Lists.{order-unique}
 use Rattle.outline.specs.declared.Outlined.{Outlined}
 use Rattle.outline.specs.Promises.{outlinedTold}
 use Rattle.outline.proofs.Claims as outline
+use Rattle.account.specs.declared.Accounted.{Accounted}
+use Rattle.account.specs.declared.Verdict.{Verdict}
+use Rattle.account.specs.Promises.{accountedTold, verdictTold}
+use Rattle.account.proofs.Claims as account
 use Rattle.layout.specs.declared.Written.{Written}
 use Rattle.layout.specs.declared.ReadBack.{ReadBack}
 use Rattle.layout.specs.Layout.{heightsIn, recordsFrom, cellsIn, peaksIn}
@@ -17,7 +21,8 @@ use Rattle.layout.proofs.HandedBytes.{bytes-unique}
 use Rattle.layout.proofs.ReadAnswer.{answers-unique}
 use Rattle.runfile.proofs.Claims as runfile
 use Rattle.meter.specs.Promises.{countTold}
-use Rattle.meter.specs.Claims.{MeterColumnUnique, MeterOutlineUnique, MeterWriteUnique, MeterReadUnique, Claims}
+use Rattle.meter.specs.Claims.{MeterColumnUnique, MeterOutlineUnique, MeterAccountUnique, MeterCheckUnique}
+use Rattle.meter.specs.Claims.{MeterWriteUnique, MeterReadUnique, Claims}
 
 meter-column-unique : MeterColumnUnique
 meter-column-unique run column grid g h work w v table t u a b p q =
@@ -27,6 +32,17 @@ meter-outline-unique : MeterOutlineUnique
 meter-outline-unique run grid levels work w v text t u a b p q =
     let e = outline.claims .outline-unique run grid levels work w v text t u _ _ (p .outlines) (q .outlines) in
     (p .answered ∙ ap (λ (x : Outlined). signedTold (outlinedTold x)) (e .0) ∙ sym (q .answered), e .1, e .2)
+
+meter-account-unique : MeterAccountUnique
+meter-account-unique rows heights cell work w v path t u island k l a b p q =
+    let e =
+    account.claims .account-unique rows heights cell work w v path t u island k l _ _ (p .accounts) (q .accounts) in
+    (p .answered ∙ ap (λ (x : Accounted). signedTold (accountedTold x)) (e .0) ∙ sym (q .answered), e .1, e .2, e .3)
+
+meter-check-unique : MeterCheckUnique
+meter-check-unique rows heights cell key path island work w v a b p q =
+    let e = account.claims .check-unique rows heights cell key path island work w v _ _ (p .checks) (q .checks) in
+    (p .answered ∙ ap (λ (x : Verdict). signedTold (verdictTold x)) (e .0) ∙ sym (q .answered), e .1)
 
 meter-write-unique : MeterWriteUnique
 meter-write-unique rows heights records room r r′ a b p q =
@@ -47,6 +63,8 @@ pub claims : Claims
 claims = record {
   meter-column-unique = meter-column-unique;
   meter-outline-unique = meter-outline-unique;
+  meter-account-unique = meter-account-unique;
+  meter-check-unique = meter-check-unique;
   meter-write-unique = meter-write-unique;
   meter-read-unique = meter-read-unique;
 }

@@ -1,8 +1,9 @@
--- The promises of the timed calls: those of `run::column`, `outline::outline`, `runfile::write` and `runfile::read`, with
--- records passed as bytes in the file's layout and the answer as one signed number.
+-- The promises of the timed calls: those of `run::column`, `outline::outline`, `account::account`, `account::check`,
+-- `runfile::write` and `runfile::read`, with records passed as bytes in the file's layout and the answer as one signed
+-- number.
 --     lentRow records           the records lent as bytes: as many as fit whole
 --     countTold a               what `meter_read` tells: the record count alone
---     MeterColumns, MeterOutlines, MeterWrites, MeterReads    the promises of the four calls
+--     MeterColumns, MeterOutlines, MeterAccounts, MeterChecks, MeterWrites, MeterReads    the promises of the six calls
 -- Assumes nothing.
 use mathlib.Core.List.{List, [], _∷_, _++_}
 use mathlib.Core.Path.{_≡_}
@@ -15,6 +16,9 @@ use Rattle.run.specs.declared.Run.{Run}
 use Rattle.run.specs.Promises.{heldOf, columnTests, columnGrid, ColumnBatch}
 use Rattle.outline.specs.declared.Outlined.{Outlined}
 use Rattle.outline.specs.Promises.{outlinedTold, Outlines}
+use Rattle.account.specs.declared.Accounted.{Accounted}
+use Rattle.account.specs.declared.Verdict.{Verdict}
+use Rattle.account.specs.Promises.{accountedTold, verdictTold, Accounts, Checks}
 use Rattle.layout.specs.declared.Written.{Written}
 use Rattle.layout.specs.declared.ReadBack.{ReadBack}
 use Rattle.layout.specs.declared.ReadBack.the-variants as read-back
@@ -40,6 +44,22 @@ pub record MeterOutlines (run : Run) (grid : List ℤ) (levels : ℕ) (work work
   pub outlined : Outlined
   pub outlines : Outlines run grid levels work work′ text text′ outlined
   pub answered : answer ≡ signedTold (outlinedTold outlined)
+
+-- ---- the account
+
+-- `Accounts` of `account`; of what it tells, the first number: the level of the key height.
+pub record MeterAccounts (rows : ℕ) (heights : List ℤ) (cell : ℕ) (work work′ path path′ island island′ : List ℕ)
+    (answer : ℤ) : Type 0 where
+  pub accounted : Accounted
+  pub accounts : Accounts rows heights cell work work′ path path′ island island′ accounted
+  pub answered : answer ≡ signedTold (accountedTold accounted)
+
+-- `Checks` of `account`.
+pub record MeterChecks (rows : ℕ) (heights : List ℤ) (cell : ℕ) (key : ℤ) (path island work work′ : List ℕ)
+    (answer : ℤ) : Type 0 where
+  pub verdict : Verdict
+  pub checks : Checks rows heights cell key path island work work′ verdict
+  pub answered : answer ≡ signedTold (verdictTold verdict)
 
 -- ---- the run file
 

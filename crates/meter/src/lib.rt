@@ -1,7 +1,7 @@
-// Calls for the benchmark to time beside the list: a column offered to a run, an ended run outlined, and the run file
-// written and read. They are there to be measured from C++, which lends no row of records (`Peak` has no layout of C):
-// records go as bytes in the file's layout, as they do at the C entry, and the answer is one signed number. A C
-// interface for all calls will replace them.
+// Calls for the benchmark to time beside the list: a column offered to a run, an ended run outlined, an account given
+// and checked, and the run file written and read. They are there to be measured from C++, which lends no row of
+// records (`Peak` has no layout of C): records go as bytes in the file's layout, as they do at the C entry, and the
+// answer is one signed number. A C interface for all calls will replace them.
 ghost use mathlib.Core.Path.{_≡_};
 ghost use Prim.Native.Nat.{_+_, _*_};
 ghost use Rattle.sound.specs.Sound.{FirstUnsound};
@@ -10,8 +10,12 @@ ghost use Rattle.layout.specs.Promises.{writtenTold, signedTold};
 ghost use Rattle.words.specs.Words.{over};
 ghost use Rattle.run.specs.Promises.{growingRun, withEnd};
 ghost use Rattle.outline.specs.Promises.{outlinedTold};
-ghost use Rattle.meter.specs.Promises.{lentRow, countTold, MeterColumns, MeterOutlines, MeterWrites, MeterReads};
+ghost use Rattle.account.specs.Promises.{accountedTold, verdictTold};
+ghost use Rattle.meter.specs.Promises.{lentRow, countTold, MeterColumns, MeterOutlines, MeterAccounts};
+ghost use Rattle.meter.specs.Promises.{MeterChecks, MeterWrites, MeterReads};
 ghost use Rattle.meter.specs.Inner.{Copyable};
+use account::Accounted;
+use account::Verdict;
 use layout::ReadBack;
 use layout::Written;
 use outline::Outlined;
@@ -34,6 +38,29 @@ fn outlined_number(outlined: Outlined) -> i64
     match outlined {
         Outlined::Bytes(n) => n as i64,
         Outlined::Refused(refusal) => layout::refused_number(refusal),
+    }
+}
+
+fn accounted_number(accounted: Accounted) -> i64
+    ensures { λ r. ⌜ r ≡ signedTold (accountedTold accounted) ⌝ }
+{
+    match accounted {
+        Accounted::Given {
+            key,
+            path: _,
+            island: _,
+        } => record::level(key) as i64,
+        Accounted::Refused(refusal) => layout::refused_number(refusal),
+    }
+}
+
+fn verdict_number(verdict: Verdict) -> i64
+    ensures { λ r. ⌜ r ≡ signedTold (verdictTold verdict) ⌝ }
+{
+    match verdict {
+        Verdict::Yes => 1,
+        Verdict::No => 0,
+        Verdict::Refused(refusal) => layout::refused_number(refusal),
     }
 }
 
@@ -100,6 +127,44 @@ pub extern "C" fn meter_outline(
     run.ended = true;
     let outlined = outline::outline(run, grid, levels, work, text);
     outlined_number(outlined)
+}
+
+// ---- the account
+
+// Gives the account of a peak: `account::account`. The answer is the level of the key height, 0 for none, or minus the
+// refusal number; the counts of both rows are not told.
+#[no_mangle]
+pub extern "C" fn meter_account(
+    rows: u32,
+    heights: &[i32],
+    cell: u32,
+    work: &mut [u8],
+    path: &mut [u32],
+    island: &mut [u32],
+) -> i64
+    ensures { λ r. ⌜ MeterAccounts rows (now (heights .entry)) cell (now (work .entry)) (now (work .exit))
+        (now (path .entry)) (now (path .exit)) (now (island .entry)) (now (island .exit)) r ⌝ }
+{
+    let accounted = account::account(rows, heights, cell, work, path, island);
+    accounted_number(accounted)
+}
+
+// Checks an account of a peak: `account::check`. The answer is 1 for yes, 0 for no, or minus the refusal number.
+#[no_mangle]
+pub extern "C" fn meter_check(
+    rows: u32,
+    heights: &[i32],
+    cell: u32,
+    key: i32,
+    path: &[u32],
+    island: &[u32],
+    work: &mut [u8],
+) -> i64
+    ensures { λ r. ⌜ MeterChecks rows (now (heights .entry)) cell key (now (path .entry)) (now (island .entry))
+        (now (work .entry)) (now (work .exit)) r ⌝ }
+{
+    let verdict = account::check(rows, heights, cell, key, path, island, work);
+    verdict_number(verdict)
 }
 
 // ---- the run file

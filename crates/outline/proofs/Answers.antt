@@ -131,7 +131,8 @@ printed-blank {run} {left = left} {room = room} levels p e =
     let none : topsPrint left (heldOf run) (levels - 1) (heldOf run) ≡ [] =
     tops-blank left (heldOf run) (levels - 1) (p .blank e) (heldOf run) (omega arith) in
     record {
-      answered = sym (ap (λ (t : List ℕ). cond (ltb (length room) (length t)) (Refused TextRoom) (Bytes (length t))) none
+      answered = sym (
+          ap (λ (t : List ℕ). cond (ltb (length room) (length t)) (Refused TextRoom) (Bytes (length t))) none
           ∙ ap (λ (b : Bool). cond b (Refused TextRoom) (Bytes 0)) (le-ltb (length room) 0 (omega arith)));
       written = sym (ap (λ (t : List ℕ). t ++ room) none);
     }

@@ -14,7 +14,8 @@ use Rattle.relief.proofs.Tests.{split, le-or-lt}
 use Rattle.relief.proofs.Levels.{cut-equal}
 use Rattle.words.proofs.Laws.{Bytes, word-below, bytes-beyond}
 use Rattle.area.specs.Area.{levelIn}
-use Rattle.survey.specs.Answers.{Loading, Loaded, Surveying, Topped}
+use Rattle.heights.specs.Inner.{Loading, Loaded}
+use Rattle.survey.specs.Answers.{Surveying, Topped}
 use Rattle.kin.specs.Kin.{Kinned}
 use Rattle.run.specs.declared.Run.{Run}
 use Rattle.run.specs.Promises.{shapeOf, heldOf}

@@ -47,7 +47,7 @@ fn prepare(run: Run, grid: &[i32], work: &mut [u8]) -> usize
 {
     let n = run::held_cells(run);
     let rows = words::index(run.rows);
-    survey::load(work, grid, n);
+    heights::load(work, grid, n);
     let m = survey::tops(work, n, rows);
     kin::link(work, n, m, rows, run.threshold);
     m

@@ -18,6 +18,7 @@ use Rattle.record.specs.declared.Refusal.{Refusal}
 use Rattle.record.specs.declared.Refusal.the-variants.{Rows, Length, Cells, Work, Table, Ended}
 use Rattle.record.specs.declared.Refusal.the-variants.{ColumnLength, GridFull, TakenCells, FileLength}
 use Rattle.record.specs.declared.Refusal.the-variants.{FileCounts, Unsound, Room, Levels, TextRoom, NotEnded}
+use Rattle.record.specs.declared.Refusal.the-variants.{NoPeak, AccountRoom}
 use Rattle.record.specs.declared.Handed.the-variants.{Count, Refused}
 use Rattle.record.specs.Refusals.{Told, granted, toldOf, badRows}
 use Rattle.record.specs.Claims.{RefusalsDiffer, HandedDiffer}
@@ -26,7 +27,7 @@ use Rattle.record.specs.Claims.{RefusalsDiffer, HandedDiffer}
 cases : ℕ → List Refusal
 cases v =
     Rows ∷ Rows ∷ Length ∷ Cells ∷ Work ∷ Table v ∷ Ended ∷ ColumnLength ∷ GridFull ∷ TakenCells ∷ FileLength
-    ∷ FileCounts ∷ Unsound v ∷ Room v ∷ Levels ∷ TextRoom ∷ NotEnded ∷ []
+    ∷ FileCounts ∷ Unsound v ∷ Room v ∷ Levels ∷ TextRoom ∷ NotEnded ∷ NoPeak ∷ AccountRoom ∷ []
 
 heard : Told → Refusal
 heard t = getD (cases (getD (t .values) 0 0)) (t .number) Rows
@@ -49,6 +50,8 @@ heard-told (Room needed) = refl
 heard-told Levels = refl
 heard-told TextRoom = refl
 heard-told NotEnded = refl
+heard-told NoPeak = refl
+heard-told AccountRoom = refl
 
 pub refusals-differ : RefusalsDiffer
 refusals-differ a b e = sym (heard-told a) ∙ ap heard e ∙ heard-told b
@@ -74,6 +77,8 @@ told-refused r values e = let h = ap (λ (t : Told). t .number) e in let l = tol
     told-some Levels = omega arith
     told-some TextRoom = omega arith
     told-some NotEnded = omega arith
+    told-some NoPeak = omega arith
+    told-some AccountRoom = omega arith
 
 pub handed-differ : HandedDiffer
 handed-differ (Count n) (Count m) e = ap (λ (t : Told). Count (getD (t .values) 0 0)) e

@@ -15,6 +15,7 @@ use Rattle.record.specs.declared.Refusal.{Refusal}
 use Rattle.record.specs.declared.Refusal.the-variants.{Rows, Length, Cells, Work, Table, Ended}
 use Rattle.record.specs.declared.Refusal.the-variants.{ColumnLength, GridFull, TakenCells, FileLength}
 use Rattle.record.specs.declared.Refusal.the-variants.{FileCounts, Unsound, Room, Levels, TextRoom, NotEnded}
+use Rattle.record.specs.declared.Refusal.the-variants.{NoPeak, AccountRoom}
 use Rattle.record.specs.declared.Checked.{Checked}
 use Rattle.record.specs.declared.Checked.the-variants.{Good, Bad}
 use Rattle.record.specs.declared.Handed.{Handed}
@@ -60,6 +61,10 @@ toldOf Levels = record { number = 14; values = [] }
 toldOf TextRoom = record { number = 15; values = [] }
 -- "run not ended"
 toldOf NotEnded = record { number = 16; values = [] }
+-- "the cell is not a peak's cell"
+toldOf NoPeak = record { number = 17; values = [] }
+-- "path or island room below one number per cell"
+toldOf AccountRoom = record { number = 18; values = [] }
 
 -- "hands out": how many records
 abbrev pub handedTold : Handed → Told

@@ -123,6 +123,8 @@ pub enum Refusal {
     Levels,
     TextRoom,
     NotEnded,
+    NoPeak,
+    AccountRoom,
 }
 
 // What the tests of a call say: none applies, or the first that does refuses it.
@@ -201,5 +203,7 @@ pub fn number(refusal: Refusal) -> u32
         Refusal::Levels => 14,
         Refusal::TextRoom => 15,
         Refusal::NotEnded => 16,
+        Refusal::NoPeak => 17,
+        Refusal::AccountRoom => 18,
     }
 }

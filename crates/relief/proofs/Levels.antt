@@ -3,6 +3,7 @@
 --     levels-end, levels-take   behind a grid's end levels are 0, and before a cut they are those of the whole grid
 --     cut-below, cut-behind     levels below the limit are as they were, and 0 behind it, ..
 --     cut-equal                 .. and no others count
+--     cut-land                  a cell at or above a level above 0 is there, and has that level
 -- Assumes nothing.
 use mathlib.Core.Path.{_≡_, refl, sym, _∙_, ap, fun-ext}
 use mathlib.Core.Bool.{Bool, true, false}
@@ -51,3 +52,9 @@ cut-equal limit f g e = fun-ext λ c.
     split (le-or-lt limit c)
     (λ l. cut-behind limit f c l ∙ sym (cut-behind limit g c l))
     (λ l. cut-below limit f c l ∙ e c l ∙ sym (cut-below limit g c l))
+
+pub cut-land : (n : ℕ) (level : ℕ → ℕ) (c : ℕ) {k : ℕ} → 0 < k → k ≤ cut n level c → (c < n) × (k ≤ level c)
+cut-land n level c l h =
+    split (le-or-lt n c)
+    (λ m. let e = cut-behind n level c m in absurd (omega arith))
+    (λ m. let e = cut-below n level c m in (m, omega arith))

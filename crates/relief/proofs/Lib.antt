@@ -5,9 +5,11 @@ pub mod Reach  -- whether there is a way, by a test
 pub mod Flats  -- flats and peaks; what outranks is better
 pub mod Keys  -- key heights and islands
 pub mod Passes  -- leading over, and pass cells
+pub mod Rows  -- rows of cells, and ways as rows
 pub mod Lists  -- entries, and lists in reading order
 pub mod Survey  -- the definitions computed: entries and the list
 pub mod Parents  -- parents and what they are
+pub mod Accounts  -- accounts, and the key height that each gives
 pub mod Families  -- what the outline is made of, and that there is one
 pub mod OutlineSurvey  -- the outline computed
 pub mod BatchSurvey  -- and what the calls of a run hand out

@@ -4,6 +4,7 @@
 -- lower than the child's, its outranking ground would lie in the region. So it is lower, and the parent's prominence is
 -- greater than the child's.
 --     top-of-best, best-of-top    the top peak of a region in terms of better cells
+--     top-unique                  a region has one top peak
 --     summit, summit-best         the best cell of a region, computed
 --     parent-of-pass              the best cell of the region of a peak's pass cell is the peak's parent
 --     parent-summit, -exists, -unique, -none    a peak with a key height has one parent, one without has none
@@ -77,7 +78,7 @@ module _ {touch : ℕ → ℕ → Type 0} {touch? : ℕ → ℕ → Bool} {level
           let m : r ≤ d = s .earliest d u in
           omega arith
 
-  top-unique : {p k q r : ℕ} → TopPeak touch level p k q → TopPeak touch level p k r → q ≡ r
+  pub top-unique : {p k q r : ℕ} → TopPeak touch level p k q → TopPeak touch level p k r → q ≡ r
   top-unique {p} {k} {q} {r} h i =
       split (h .top r (i .peak) (i .inside))
       (λ l. split (i .top q (h .peak) (h .inside)) (λ m. absurd (omega arith))

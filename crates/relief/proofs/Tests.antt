@@ -1,6 +1,8 @@
 -- Tests that compute, and what they decide: each test of this crate is a Bool with a law that says what it tells.
 --     split s f g              goes by the two cases of a sum
 --     cond-true, cond-false    the first or the second
+--     confirmed, refuted       the answer true decides what holds, and false what does not
+--     denies, affirms          what a negated test tells
 --     and, or, not             decide a pair, a sum, a negation
 --     anyBelow n f, allBelow   decide whether some or each number below n passes the test f
 --     firstFrom k i f          the first of the k numbers from i on that passes, or i + k
@@ -47,6 +49,19 @@ passes {b = false} d a = absurd (d .fails refl a)
 pub declines : {A : Type 0} {b : Bool} → Decides A b → (A → ⊥) → b ≡ false
 declines {b = true} d n = absurd (n (d .holds refl))
 declines {b = false} d n = refl
+
+-- what an answer decides, and what a negated test tells
+pub confirmed : {A : Type 0} → A → Decides A true
+confirmed a = record { holds = λ e. a; fails = λ e. true-not-false refl e }
+
+pub refuted : {A : Type 0} → (A → ⊥) → Decides A false
+refuted n = record { holds = λ e. true-not-false e refl; fails = λ e. n }
+
+pub denies : {A : Type 0} {b : Bool} → Decides A b → not b ≡ true → A → ⊥
+denies {b = b} d e = d .fails (not-true b e)
+
+pub affirms : {A : Type 0} {b : Bool} → Decides A b → not b ≡ false → A
+affirms {b = b} d e = d .holds (not-false b e)
 
 -- ---- tests of numbers
 

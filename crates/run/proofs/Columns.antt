@@ -31,9 +31,10 @@ use Rattle.record.specs.declared.Handed.{Handed}
 use Rattle.record.specs.declared.Handed.the-variants.{Refused}
 use Rattle.record.specs.Refusals.{firstOf}
 use Rattle.area.specs.Area.{levelIn}
+use Rattle.heights.specs.Inner.{Loading, Loaded}
 use Rattle.table.specs.Inner.{roomAnswer}
 use Rattle.table.proofs.Handed.{worked-late, flat-refused, flat-made}
-use Rattle.survey.specs.Answers.{entriesIn, Loading, Loaded, Surveying, Answered, stageIn}
+use Rattle.survey.specs.Answers.{entriesIn, Surveying, Answered, stageIn}
 use Rattle.survey.proofs.Records.{places-record, places-length}
 use Rattle.run.specs.declared.Run.{Run}
 use Rattle.run.specs.Promises.{shapeOf, heldOf, columnTests, endTests, columnGrid, columnRun, endRun, heightsWith}

@@ -73,7 +73,7 @@ fn column_good(run: Run, column: &[i32], grid: &mut [i32], work: &mut [u8], room
     let held = held_cells(run);
     let n = held + rows;
     copy(grid, held, column);
-    survey::load(work, grid, n);
+    heights::load(work, grid, n);
     let count = survey::closing(work, n, held, rows, run.threshold);
     let handed = table::room_answer(count, room);
     Step {
@@ -89,7 +89,7 @@ fn end_good(run: Run, grid: &[i32], work: &mut [u8], room: usize) -> Step
         (r .run) (r .handed) ⌝ }
 {
     let held = held_cells(run);
-    survey::load(work, grid, held);
+    heights::load(work, grid, held);
     let count = survey::rest(work, held, words::index(run.rows), run.threshold);
     let handed = table::room_answer(count, room);
     Step {

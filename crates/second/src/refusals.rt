@@ -112,6 +112,41 @@ pub fn outline_refusal(
     room_refusal(rows, columns as u64, work, 15, room, needed)
 }
 
+// The refusal of a check call: 1, 2, 3, 4, 17, for a cell that is a peak's or not. The first four are those of a list
+// call, to which a table is never too short for no record.
+pub fn check_refusal(rows: u32, length: usize, work: usize, peak: bool) -> u32 {
+    let grid = list_refusal(rows, length, work, 0, 0);
+    if grid != 0 {
+        return grid;
+    }
+    if !peak {
+        return 17;
+    }
+    0
+}
+
+// The refusal of an account call: 1, 2, 3, 4, 17, 18. The rooms for a path and an island are numbers.
+pub fn account_refusal(
+    rows: u32,
+    length: usize,
+    work: usize,
+    peak: bool,
+    path: usize,
+    island: usize,
+) -> u32 {
+    let check = check_refusal(rows, length, work, peak);
+    if check != 0 {
+        return check;
+    }
+    if path < length {
+        return 18;
+    }
+    if island < length {
+        return 18;
+    }
+    0
+}
+
 // What column and end calls refuse in a run record: 1, 9, 6.
 fn growing_refusal(rows: u32, columns: u32, ended: bool, grid: usize) -> u32 {
     let run = run_refusal(rows, columns, grid);

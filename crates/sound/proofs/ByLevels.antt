@@ -1,7 +1,6 @@
 -- Soundness by levels: each test decides a clause of `Sound`, since heights are equal where their levels are, and in
 -- the levels' order.
 --     mark-decides             the test for the mark decides it
---     refuted                  the answer false decides what does not hold
 --     Keys hs p                what a sound record's key fields are
 --     keyless-decides          where the key height is missing, the pass cell decides
 --     keyed-refuted            where it is there, a clause of `Keyed` that fails decides
@@ -11,7 +10,7 @@
 use mathlib.Core.Bool.{Bool, true, false}
 use mathlib.Core.List.{List}
 use mathlib.Core.Logic.{_⊎_, inl, inr}
-use mathlib.Core.Path.{_≡_, refl, sym, ap, _∙_}
+use mathlib.Core.Path.{_≡_, sym, ap, _∙_}
 use Prim.Native.Nat.{ℕ, _≤_, _<_}
 use lib.Dec.{eqb}
 use lib.IntN.{ℤ}
@@ -20,7 +19,7 @@ use mir.Syntax.{w32}
 use mir.Val.{SFits}
 use Rattle.relief.specs.Heights.{BLANK, levelOf}
 use Rattle.relief.specs.Inner.{Decides}
-use Rattle.relief.proofs.Tests.{true-not-false, eq-decides, decides-iff}
+use Rattle.relief.proofs.Tests.{eq-decides, decides-iff, refuted}
 use Rattle.record.specs.declared.Peak.{Peak}
 use Rattle.record.specs.Records.{isMark}
 use Rattle.record.proofs.Levels.{level-blank-iff, level-injective, level-lt-iff}
@@ -29,9 +28,6 @@ use Rattle.sound.specs.Sound.{Keyless, Keyed, Sound}
 pub mark-decides : {z : ℤ} → SFits w32 z → Decides (z ≡ BLANK) (isMark z)
 unfolding isMark
 mark-decides {z} f = decides-iff (level-blank-iff f .0) (level-blank-iff f .1) (eq-decides (levelOf z) 0)
-
-pub refuted : {A : Type 0} → (A → ⊥) → Decides A false
-refuted n = record { holds = λ e. true-not-false e refl; fails = λ e. n }
 
 abbrev pub Keys : List ℤ → Peak → Type 0
 Keys hs p = Keyless p ⊎ Keyed hs p

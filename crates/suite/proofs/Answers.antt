@@ -21,7 +21,8 @@ use Rattle.record.specs.Inner.{thenTest}
 use Rattle.record.proofs.Refusals.{rows-known}
 use Rattle.record.proofs.Tests.{make, then, first-passed}
 use Rattle.area.specs.Area.{Area}
-use Rattle.survey.specs.Answers.{Loaded, Surveying, Answered}
+use Rattle.heights.specs.Inner.{Loaded}
+use Rattle.survey.specs.Answers.{Surveying, Answered}
 use Rattle.suite.specs.Promises.{suiteTests}
 use Rattle.suite.specs.Inner.{GoodBytes}
 

@@ -8,7 +8,7 @@ use native.Mathlib.Omega.{arith}
 use Rattle.relief.specs.Heights.{BLANK, levelOf}
 use Rattle.words.specs.Words.{wordAt, Stored}
 use Rattle.words.proofs.Laws.{Bytes}
-use Rattle.survey.proofs.Loads.{Loads, loads-step}
+use Rattle.heights.proofs.Loads.{Loads, loads-step}
 use Rattle.layout.specs.Layout.{signedOf, heightsFrom}
 use Rattle.layout.proofs.Rows.{heights-length, heights-at}
 

@@ -4,7 +4,7 @@ ghost use Prim.Native.Nat.{_*_, _≤_};
 ghost use lib.ListN.{length};
 ghost use Rattle.record.specs.Refusals.{firstOf};
 ghost use Rattle.area.specs.Area.{Area};
-ghost use Rattle.survey.specs.Answers.{Loaded};
+ghost use Rattle.heights.specs.Inner.{Loaded};
 ghost use Rattle.layout.specs.Layout.{heightsFrom};
 ghost use Rattle.suite.specs.Promises.{suiteTests, SuiteLists};
 ghost use Rattle.suite.specs.Inner.{SuiteFlat, GoodBytes};

@@ -1,4 +1,5 @@
 -- A call that lists a grid, whatever its tests and however its heights are lent: its promise without the row.
+--     grid-surveying   the levels of a grid that passed its tests, once loaded, may be surveyed
 --     list-refused     a test refuses; the list is there all the same
 --     list-made        none does: what a survey of the loaded heights leaves is the list
 -- Assumes nothing.
@@ -20,11 +21,18 @@ use Rattle.record.specs.declared.Handed.{Handed}
 use Rattle.record.specs.declared.Handed.the-variants.{Refused}
 use Rattle.record.specs.Refusals.{firstOf}
 use Rattle.area.specs.Area.{levelIn}
+use Rattle.heights.specs.Inner.{GoodGrid, Loaded}
+use Rattle.heights.proofs.Answers.{grid-loaded}
+use Rattle.heights.proofs.Loads.{loaded-levels}
 use Rattle.table.specs.Inner.{roomAnswer, HandsFlat}
 use Rattle.table.proofs.Handed.{worked-late, flat-refused, flat-made}
-use Rattle.survey.specs.Answers.{entriesIn, Loaded, Answered}
+use Rattle.survey.specs.Answers.{entriesIn, Surveying, Answered}
 use Rattle.survey.proofs.Records.{places-record, places-length}
-use Rattle.survey.proofs.Loads.{loaded-levels}
+
+pub grid-surveying : {rows cells work : ℕ} → GoodGrid rows cells work → {s t : List ℕ} {heights : List ℤ} {r : ℕ}
+    → length s ≡ work → Loaded s t heights cells → r ≡ rows → Surveying t cells r
+grid-surveying g e h q =
+    let (area, some, few) = grid-loaded g e h q in record { area = area; rows-some = some; rows-few = few }
 
 module _ (tests : List (Bool × Refusal)) (shape : Shape) (T room : ℕ) (hs : List ℤ) {n : ℕ} {work left : List ℕ} where
   pub list-refused : {r : Refusal} → firstOf tests ≡ Bad r → left ≡ work

@@ -22,6 +22,7 @@ use Rattle.relief.proofs.Survey.{peak-key, survey-list}
 use Rattle.relief.proofs.Parents as Parents
 use Rattle.relief.proofs.Families.{outline-unique}
 use Rattle.relief.proofs.OutlineSurvey.{survey-outline}
+use Rattle.relief.proofs.Accounts as Accounts
 use Rattle.relief.proofs.Closed as Closing
 use Rattle.relief.proofs.Batches as Growing
 use Rattle.relief.proofs.Plane as Plane
@@ -117,6 +118,11 @@ module _ {touch : ℕ → ℕ → Type 0} {touch? : ℕ → ℕ → Bool} {level
     parent-listed = λ T q e l h. Parents.parent-listed t l h;
     outline-exists = λ T levels. (_, survey-outline t T levels);
     outline-unique = λ T levels x y h h′. outline-unique h h′;
+    account-true = λ p k path island q h. Accounts.account-key t q h;
+    account-one = λ p k k′ path path′ island island′ q h h′. Accounts.account-unique t q h h′;
+    account-exists = λ p q. Accounts.account-exists t p q;
+    own-account = λ p k path island h. (h .account, Accounts.own-distinct t h);
+    own-unique = λ p k k′ path path′ island island′ q h h′. Accounts.own-unique t q h h′;
   }
     where
       stays : (In : ℕ → Type 0) (k : ℕ) → ((a b : ℕ) → In a → (In b → ⊥) → touch a b → level b ≤ k)

@@ -6,6 +6,7 @@ use Rattle.relief.specs.Heights.{BLANK, levelOf}
 use Rattle.relief.specs.Peaks.{Way, least, Path, Peak, Outranks, KeyHeight, NoKey, Island, PassCell, Entry}
 use Rattle.relief.specs.Peaks.{floorOf, passCellOf, Alike, prominence, Member, Among, InReadingOrder, PeakEntry}
 use Rattle.relief.specs.{Peaks.Listed, Peaks.ListOf, Outline.Parent, Outline.Outline}
+use Rattle.relief.specs.Accounts.{Account, OwnAccount, Distinct}
 use Rattle.relief.specs.Runs.{Stage, Closed, Open, Batch, Rest, Further, Growing, StaysClosed}
 use Rattle.relief.specs.Plane.{rowOf, columnOf, Plane, Shape, planeOf, touchOf, stageOf}
 use Rattle.theorems.specs.Grids.{keyed, Follow, marked}
@@ -56,6 +57,23 @@ pub record OfGrid (touch : ℕ → ℕ → Type 0) (level : ℕ → ℕ) : Type 
   -- Two outlines that the definition allows are equal.
   pub outline-unique : (T levels : ℕ) (t u : List ℕ) → Outline touch level T levels t → Outline touch level T levels u
       → t ≡ u
+  -- "A small check accepts any such account from any source, and no other; prove that each gives the one true key
+  -- height": 0 stands for none.
+  pub account-true : (p k : ℕ) (path island : List ℕ) → Peak touch level p → Account touch level p k path island
+      → (0 < k → KeyHeight touch level p k) × (k ≡ 0 → NoKey touch level p)
+  -- Whoever made them, two accounts of a peak have one key height and one island; the paths can be two.
+  pub account-one : (p k k′ : ℕ) (path path′ island island′ : List ℕ) → Peak touch level p
+      → Account touch level p k path island → Account touch level p k′ path′ island′ → (k ≡ k′) × (island ≡ island′)
+  -- "For a peak the analyst clicks on, the tool gives an account": each peak has one.
+  pub account-exists : (p : ℕ) → Peak touch level p
+      → (k : ℕ) × (path : List ℕ) × (island : List ℕ) × Account touch level p k path island
+  -- "The tool's own always passes, and its path visits no cell twice."
+  pub own-account : (p k : ℕ) (path island : List ℕ) → OwnAccount touch level p k path island
+      → Account touch level p k path island × Distinct path
+  -- Two accounts of the tool's own of one peak are equal in every part.
+  pub own-unique : (p k k′ : ℕ) (path path′ island island′ : List ℕ) → Peak touch level p
+      → OwnAccount touch level p k path island → OwnAccount touch level p k′ path′ island′
+      → (k ≡ k′) × (path ≡ path′) × (island ≡ island′)
 
 module _ (touch : ℕ → ℕ → Type 0) (stage : ℕ → Stage) (columns T : ℕ) (batch : ℕ → List Entry) (rest : List Entry) where
   -- A run from its start, column by column, with what the calls handed out of it.

@@ -3,9 +3,11 @@
 //
 // The lister is asked through its public calls, each that hands out records lent a row of them. What differs is printed
 // by its number, from which all of a grid or run is drawn.
+mod accounts; // accounts.rt: both listers on accounts, and the check of changed ones
 mod backwards; // backwards.rt: the list of a grid that is read backwards
 mod batches; // batches.rt: the batches of a run are the list, pass cells apart
 mod both; // both.rt: one call of both listers, accepted or refused
+mod changed; // changed.rt: accounts and rows that are changed
 mod forged; // forged.rt: run records that are refused
 mod growing; // growing.rt: both listers on runs
 mod lists; // lists.rt: both listers on grids
@@ -14,18 +16,21 @@ mod random; // random.rt: made-up grids
 mod refiled; // refiled.rt: run files written and read back
 
 use crate::random::CELLS;
+use lent::accounts::NO;
 use libc::STDOUT_FILENO;
 
 // How many made-up grids each relation is tried on.
 const GRIDS: u64 = 300;
 
-// The made-up grids behind these, up to the first of the runs, the runs up to the first of the outlines, and the
-// outlines up to the last: both listers are compared on them, with the refusals.
+// The made-up grids behind these, up to the first of the runs, the runs up to the first of the outlines, the outlines
+// up to the first of the accounts, and these up to the end: both listers are compared on them, with the refusals.
 const FIRST_RUN: u64 = 700;
 
 const FIRST_OUTLINE: u64 = 850;
 
-const LAST_OUTLINE: u64 = 1150;
+const FIRST_ACCOUNT: u64 = 1150;
+
+const END: u64 = 1300;
 
 // What is tried.
 enum Trial {
@@ -43,37 +48,45 @@ enum Trial {
     Growing,
     // Both listers answer outline calls alike.
     Outlines,
+    // Both listers answer account calls alike, and say the same to accounts.
+    Accounts,
+    // The check says yes to an account whose path was changed.
+    Accepted,
+    // The check says no to one.
+    Declined,
 }
 
 fn main() {
     related();
     compared();
+    accounted();
 }
 
 // Prints on how many made-up grids two answers are related as they must be.
 fn related() {
     say_of_all(count(Trial::Batches, 0, GRIDS));
     say(b" runs: batches and list agree, pass cells apart, which only move to earlier ones\n");
-    say_if_passes_move();
+    say_if_some(Trial::Moves, 0, GRIDS);
+    say(b" of these runs a pass cell moves\n");
     say_of_all(count(Trial::Backwards, 0, GRIDS));
     say(b" grids without equal heights: the list read backwards agrees\n");
     say_of_all(count(Trial::Refiled, 0, GRIDS));
     say(b" lists: written to a file and read back the same\n");
 }
 
-// Prints whether there is such a move. Without one the runs would not try it.
-fn say_if_passes_move() {
-    if some_pass_moves(0, GRIDS) {
-        say(b"in some of these runs a pass cell moves\n");
+// Prints whether there is such a one among those from `start` on and below `end`. Without one they would not try it.
+fn say_if_some(trial: Trial, start: u64, end: u64) {
+    if some(trial, start, end) {
+        say(b"in some");
     } else {
-        say(b"in none of these runs a pass cell moves\n");
+        say(b"in none");
     }
 }
 
-// Whether there is one in the runs from `start` on and below `end`.
-fn some_pass_moves(start: u64, end: u64) -> bool {
+// Whether there is one.
+fn some(trial: Trial, start: u64, end: u64) -> bool {
     for n in start..end {
-        if drawn_agrees(Trial::Moves, n) {
+        if drawn_agrees(trial, n) {
             return true;
         }
     }
@@ -86,8 +99,20 @@ fn compared() {
     say(b" grids: both listers agree, refusals too, and other entries stay\n");
     say_count(count(Trial::Growing, FIRST_RUN, FIRST_OUTLINE));
     say(b" runs: both listers agree, refusals too, and other entries stay\n");
-    say_count(count(Trial::Outlines, FIRST_OUTLINE, LAST_OUTLINE));
+    say_count(count(Trial::Outlines, FIRST_OUTLINE, FIRST_ACCOUNT));
     say(b" outlines: both listers agree, refusals too, and other bytes stay\n");
+}
+
+// Prints on how many made-up grids both listers agree on accounts, and that some changed path is accepted, some is not.
+fn accounted() {
+    say_count(count(Trial::Accounts, FIRST_ACCOUNT, END));
+    say(
+        b" grids: both listers agree on accounts, the check of changed ones and refusals, and other numbers stay\n",
+    );
+    say_if_some(Trial::Accepted, FIRST_ACCOUNT, END);
+    say(b" of these grids a changed path is accepted\n");
+    say_if_some(Trial::Declined, FIRST_ACCOUNT, END);
+    say(b" of these grids a changed path is not accepted\n");
 }
 
 // How many of those from `start` on and below `end` are as they must be.
@@ -149,6 +174,9 @@ fn agrees(
         Trial::Lists => lists::agree(rows, heights, threshold),
         Trial::Growing => growing::agrees(rows, heights, threshold, column),
         Trial::Outlines => outlines::agree(rows, heights, threshold, levels),
+        Trial::Accounts => accounts::agree(rows, heights),
+        Trial::Accepted => accounts::changed_gets(0, rows, heights),
+        Trial::Declined => accounts::changed_gets(NO, rows, heights),
     }
 }
 

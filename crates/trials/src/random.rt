@@ -145,9 +145,10 @@ fn of_few(drawn: u64) -> i32 {
     }
 }
 
-// Low ground with hills and summits here and there, divided by row 1, which is blank but for a gate at its beginning, as
-// high as a hill. The gate is a peak that low ground touches on both sides, and its pass is on a side that leads to a
-// summit, often over hills. If that is the later side and a summit comes on the earlier one too, the pass moves there.
+// Low ground with hills and summits here and there, divided by row 1, which is blank but for a gate at its beginning,
+// as high as a hill. The gate is a peak that low ground touches on both sides, and its pass is on a side that leads to
+// a summit, often over hills. If that is the later side and a summit comes on the earlier one too, the pass moves
+// there.
 fn of_divided(rows: u64, cell: u64, drawn: u64) -> i32 {
     if cell == 1 {
         return 0;

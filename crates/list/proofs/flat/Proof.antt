@@ -4,9 +4,9 @@ use lib.ListN.{length}
 use denote.Ref.{now}
 use borrow.Author.Needs.{needs}
 use Rattle.relief.specs.Plane.{planeOf}
+use Rattle.heights.specs.Grid.{gridTests}
+use Rattle.heights.proofs.Answers.{grid-good}
 use Rattle.survey.proofs.ListCalls.{list-refused}
-use Rattle.list.specs.Promises.{listTests}
-use Rattle.list.proofs.Answers.{grid-good}
 use Rattle.list.proofs.flat.Statement.{statement}
 use Rattle.list.proofs.flat.Tie as tie
 
@@ -21,7 +21,7 @@ returns : tie.Need-returns
 returns c =
     let at-check = c .before .before .before in
     let a = at-check .before .before .args in
-    list-refused (listTests (a .rows) (length (now (a .heights))) (length (now (a .work)))) (planeOf (a .rows))
+    list-refused (gridTests (a .rows) (length (now (a .heights))) (length (now (a .work)))) (planeOf (a .rows))
     (a .threshold) (a .room) (now (a .heights))
     (sym (at-check .check .ensures) ∙ c .before .checked .given .1) refl
 

@@ -5,9 +5,10 @@ use lib.ListN.{length}
 use denote.Ref.{now}
 use borrow.Author.Needs.{needs}
 use Rattle.relief.specs.Plane.{planeOf}
-use Rattle.survey.proofs.ListCalls.{list-made}
-use Rattle.list.specs.Promises.{listTests}
-use Rattle.list.proofs.Answers.{grid-loading, grid-surveying, grid-few}
+use Rattle.heights.specs.Grid.{gridTests}
+use Rattle.heights.proofs.Answers.{grid-loading}
+use Rattle.survey.proofs.ListCalls.{grid-surveying, list-made}
+use Rattle.list.proofs.Answers.{grid-few}
 use Rattle.list.proofs.flat_good.Statement.{statement}
 use Rattle.list.proofs.flat_good.Tie as tie
 
@@ -33,7 +34,7 @@ returns c =
     let at-load = at-whole .before .before .before .before .before in
     let s = at-load .before .before .before in
     let a = s .args in
-    list-made (listTests (a .rows) (length (now (a .heights))) (length (now (a .work)))) (planeOf (a .rows))
+    list-made (gridTests (a .rows) (length (now (a .heights))) (length (now (a .work)))) (planeOf (a .rows))
     (a .threshold) (a .room) (now (a .heights)) (s .pre .good) refl (at-load .load .ensures)
     (rw (at-whole .before .index .ensures) at (at-whole .whole .ensures)) (c .room-answer .ensures)
 

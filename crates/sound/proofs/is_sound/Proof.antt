@@ -7,8 +7,9 @@ use mir.Syntax.{w32}
 use mir.Val.{SFits}
 use mir.ValLaws.{toZ-ofZ}
 use Rattle.relief.specs.Heights.{levelOf}
+use Rattle.relief.proofs.Tests.{refuted}
 use Rattle.record.specs.Records.{isMark}
-use Rattle.sound.proofs.ByLevels.{refuted, mark-decides, sound-decides}
+use Rattle.sound.proofs.ByLevels.{mark-decides, sound-decides}
 use Rattle.sound.proofs.is_sound.Statement.{statement}
 use Rattle.sound.proofs.is_sound.Tie as tie
 

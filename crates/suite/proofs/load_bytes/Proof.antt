@@ -1,4 +1,4 @@
--- `suite::load_bytes` meets its contract. The invariant is that of `survey::load`, over the heights of the lent bytes:
+-- `suite::load_bytes` meets its contract. The invariant is that of `heights::load`, over the heights of the lent bytes:
 -- so many levels stand in the first quarter. A turn reads a height and stores its level. What is left
 -- of the cells falls. Assumes nothing.
 use mathlib.Core.Path.{ap, _∙_}
@@ -9,7 +9,7 @@ use mir.Syntax.{w32}
 use mir.ValLaws.{toZ-ofZ}
 use borrow.Author.Needs.{needs}
 use Rattle.relief.specs.Heights.{levelOf}
-use Rattle.survey.proofs.Loads.{Loads, loads-start, loads-done}
+use Rattle.heights.proofs.Loads.{Loads, loads-start, loads-done}
 use Rattle.layout.specs.Layout.{signedOf, heightsFrom}
 use Rattle.suite.proofs.Heights.{loads-signed}
 use Rattle.suite.proofs.load_bytes.Statement.{statement}

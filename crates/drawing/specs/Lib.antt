@@ -1,0 +1,2 @@
+pub mod Drawing  -- what drawing an island and a path asks and promises
+pub mod Inner  -- their steps: inner contracts

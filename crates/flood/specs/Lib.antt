@@ -1,0 +1,2 @@
+pub mod Flood  -- what a flood asks and promises
+pub mod Inner  -- its steps: inner contracts
