@@ -85,7 +85,7 @@ for name in ("docs/PROMISES.md", "docs/MAP.md"):
     assert named and not missing, missing
 
 # The edit that CONTRIBUTING.md shows is one of them.
-shown = page("crates/survey/must-fail/key_level_tells_the_peaks_own_level.edit")
+shown = page("crates/table/must-fail/peak_at_takes_the_height_for_the_key_height.edit")
 assert "".join(f"    {line}\n" for line in shown.splitlines()) in page("CONTRIBUTING.md")
 
 # Each definition that docs/MAP.md names stands in the specs/ of the crate before it.
