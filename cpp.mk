@@ -16,11 +16,11 @@
 #
 #     CPP_MACHINE   the processor to choose by, unless it is to be this machine's
 #     CPP_LIBRARY   the archive of the C entry, unless it is to be the one that rt writes
-#     CPP_METER     the archive of the other calls that are timed, likewise
+#     CPP_METERS    the folder of the archives of the other calls that are timed, libmeter_*.a, likewise
 
 CPP_MACHINE ?= $(shell uname -m)
 CPP_LIBRARY ?= target/staticlib/libsuite.a
-CPP_METER ?= target/staticlib/libmeter.a
+CPP_METERS ?= target/staticlib
 CPP_OUT := target/cpp
 CPP_FLAGS := -std=c++17 -O2 -Wall -Wextra -Wpedantic -Iinclude
 CPP_REFERENCE := bench/places.hpp bench/reference.hpp bench/sweep.hpp
@@ -106,45 +106,49 @@ cpp-instructions: $(CPP_OUT)/bench $(CPP_OUT)/outlines $(CPP_OUT)/accounts $(CPP
 	$(CPP_EMULATE) -cpu qemu64 $$plugin $(CPP_OUT)/outlines --work && echo && \
 	$(CPP_EMULATE) -cpu qemu64 $$plugin $(CPP_OUT)/accounts --work
 
+# Each program is linked with the archives that its rule names.
+CPP_ARCHIVES = $(filter %.a,$^)
+
 $(CPP_OUT)/example: examples/suite/example.cpp include/mayexoton.h $(CPP_OUT)/libsuite.a | cpp-ready
-	@$(CPP_CXX) $(CPP_FLAGS) $< $(CPP_OUT)/libsuite.a -o $@
+	@$(CPP_CXX) $(CPP_FLAGS) $< $(CPP_ARCHIVES) -o $@
 
 $(CPP_OUT)/suite_test: tests/suite/suite_test.cpp tests/suite/definitions.hpp tests/suite/room.hpp \
     include/mayexoton.h $(CPP_OUT)/libsuite.a | cpp-ready
-	@$(CPP_CXX) $(CPP_FLAGS) $(CPP_SANITIZE) $< $(CPP_OUT)/libsuite.a -o $@
+	@$(CPP_CXX) $(CPP_FLAGS) $(CPP_SANITIZE) $< $(CPP_ARCHIVES) -o $@
 
 $(CPP_OUT)/column_test: tests/suite/column_test.cpp tests/suite/room.hpp bench/meter.hpp \
-    $(CPP_OUT)/libmeter.a | cpp-ready
-	@$(CPP_CXX) $(CPP_FLAGS) -Ibench $(CPP_SANITIZE) $< $(CPP_OUT)/libmeter.a -o $@
+    $(CPP_OUT)/libmeter_runs.a | cpp-ready
+	@$(CPP_CXX) $(CPP_FLAGS) -Ibench $(CPP_SANITIZE) $< $(CPP_ARCHIVES) -o $@
 
 $(CPP_OUT)/bench: bench/bench.cpp bench/grids.hpp bench/instructions.hpp $(CPP_REFERENCE) bench/times.hpp \
     include/mayexoton.h $(CPP_OUT)/libsuite.a | cpp-ready
-	@$(CPP_CXX) $(CPP_FLAGS) $< $(CPP_OUT)/libsuite.a -o $@
+	@$(CPP_CXX) $(CPP_FLAGS) $< $(CPP_ARCHIVES) -o $@
 
 $(CPP_OUT)/calls: bench/calls.cpp bench/batches.hpp bench/grids.hpp bench/lent.hpp bench/meter.hpp \
     $(CPP_REFERENCE) bench/runfile.hpp bench/times.hpp include/mayexoton.h $(CPP_OUT)/libsuite.a \
-    $(CPP_OUT)/libmeter.a | cpp-ready
-	@$(CPP_CXX) $(CPP_FLAGS) $< $(CPP_OUT)/libsuite.a $(CPP_OUT)/libmeter.a -o $@
+    $(CPP_OUT)/libmeter_runs.a $(CPP_OUT)/libmeter_files.a | cpp-ready
+	@$(CPP_CXX) $(CPP_FLAGS) $< $(CPP_ARCHIVES) -o $@
 
 $(CPP_OUT)/outlines: bench/outlines.cpp bench/grids.hpp bench/lent.hpp bench/made_up_grids.hpp \
     bench/made_up_outlines.hpp bench/meter.hpp bench/outline.hpp $(CPP_REFERENCE) $(CPP_TABLES) \
-    tests/suite/definitions.hpp include/mayexoton.h $(CPP_OUT)/libsuite.a $(CPP_OUT)/libmeter.a | cpp-ready
-	@$(CPP_CXX) $(CPP_FLAGS) -Itests/suite $< $(CPP_OUT)/libsuite.a $(CPP_OUT)/libmeter.a -o $@
+    tests/suite/definitions.hpp include/mayexoton.h $(CPP_OUT)/libsuite.a $(CPP_OUT)/libmeter_runs.a | cpp-ready
+	@$(CPP_CXX) $(CPP_FLAGS) -Itests/suite $< $(CPP_ARCHIVES) -o $@
 
 $(CPP_OUT)/accounts: bench/accounts.cpp bench/account.hpp bench/grids.hpp bench/lent.hpp bench/made_up_accounts.hpp \
     bench/made_up_claims.hpp bench/made_up_grids.hpp bench/meter.hpp $(CPP_REFERENCE) $(CPP_TABLES) \
     tests/suite/accounts.hpp tests/suite/definitions.hpp include/mayexoton.h $(CPP_OUT)/libsuite.a \
-    $(CPP_OUT)/libmeter.a | cpp-ready
-	@$(CPP_CXX) $(CPP_FLAGS) -Itests/suite $< $(CPP_OUT)/libsuite.a $(CPP_OUT)/libmeter.a -o $@
+    $(CPP_OUT)/libmeter_accounts.a | cpp-ready
+	@$(CPP_CXX) $(CPP_FLAGS) -Itests/suite $< $(CPP_ARCHIVES) -o $@
 
 # For this machine, as the emulator is.
 $(CPP_OUT)/libcounter.so: bench/counter.cpp bench/instructions.hpp | $(CPP_OUT)
 	@$(CXX) $(CPP_FLAGS) -fPIC -shared $< -o $@
 
 # Copies that change only when the archives do: rt writes an archive each time.
+CPP_COPIES := $(patsubst %,$(CPP_OUT)/libmeter_%.a,runs files accounts)
 $(CPP_OUT)/libsuite.a: $(CPP_LIBRARY)
-$(CPP_OUT)/libmeter.a: $(CPP_METER)
-$(CPP_OUT)/libsuite.a $(CPP_OUT)/libmeter.a: | $(CPP_OUT)
+$(CPP_COPIES): $(CPP_OUT)/%: $(CPP_METERS)/%
+$(CPP_OUT)/libsuite.a $(CPP_COPIES): | $(CPP_OUT)
 	@cmp -s $< $@ || cp $< $@
 
 target/staticlib/lib%.a: cpp-always | $(CPP_OUT)

@@ -1,5 +1,5 @@
-// What the library offers to be timed: the calls of the proved crate `meter`, whose archive is linked beside that of
-// the C entry.
+// What the library offers to be timed: the calls of the proved crates `meter_runs`, `meter_files` and `meter_accounts`.
+// A program is linked with the archive of each crate that it calls.
 //
 // A slice is lent as a pointer and its length, which counts numbers of 32 bits or bytes. Records are bytes in the
 // file's layout. The answer is a number that is not negative, or minus the refusal number.
@@ -9,6 +9,8 @@
 #include <cstdint>
 
 extern "C" {
+
+// ---- meter_runs
 
 // Offers a column to a run that has not ended. Answers how many records the table got.
 std::int64_t meter_column(std::uint32_t rows, std::uint32_t columns_taken, std::uint32_t threshold,
@@ -21,6 +23,8 @@ std::int64_t meter_outline(std::uint32_t rows, std::uint32_t columns, std::uint3
                            const std::int32_t *grid, std::size_t grid_length, std::uint8_t *work,
                            std::size_t work_bytes, std::uint8_t *text, std::size_t text_bytes);
 
+// ---- meter_accounts
+
 // Gives the account of the peak at a cell. Answers the level of its key height, which is 2147483648 above it, or 0 for
 // none; path and island stand at the front of their rows.
 std::int64_t meter_account(std::uint32_t rows, const std::int32_t *heights, std::size_t heights_length,
@@ -32,6 +36,8 @@ std::int64_t meter_check(std::uint32_t rows, const std::int32_t *heights, std::s
                          std::uint32_t cell, std::int32_t key_height, const std::uint32_t *path,
                          std::size_t path_length, const std::uint32_t *island, std::size_t island_length,
                          std::uint8_t *work, std::size_t work_bytes);
+
+// ---- meter_files
 
 // Writes a run file. Answers how many bytes it has.
 std::int64_t meter_write(std::uint32_t rows, const std::int32_t *heights, std::size_t heights_length,

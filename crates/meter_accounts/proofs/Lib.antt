@@ -1,0 +1,1 @@
+pub mod Claims  -- each promise allows one outcome
