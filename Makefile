@@ -9,7 +9,7 @@
 test:
 	@echo "test: layout, pages, tools, C++ tests, the programs' files, then all proofs; 30 to 50 minutes" >&2
 	@$(MAKE) --no-print-directory cpp-tools
-	@$(MAKE) --no-print-directory -j3 -Oline layout pages tools proved
+	@$(MAKE) --no-print-directory -j3 -Oline layout pages tools cpp-objects proved
 	@$(MAKE) --no-print-directory -j3 -Oline cpp-test peaks outlines
 	@echo "test: proving every crate from nothing and trying every must-fail edit; 25 to 40 minutes" >&2
 	@python3 tests/edits/gate.py

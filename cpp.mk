@@ -8,6 +8,7 @@
 #     cpp-small         library and plain C++ agree on small grids, runs, files, outlines and accounts
 #     cpp-bench         times the library against plain C++; under an emulator it is cpp-instructions
 #     cpp-instructions  instructions per cell of lists, outlines and accounts, counted by the emulator
+#     cpp-objects       compiles the tests and the benchmarks, and links none
 #     cpp-tools         installs what cpp-test and cpp-bench need and the machine lacks, by apt-get: on x86-64 g++; on
 #                       another processor g++-x86-64-linux-gnu, qemu-user and g++
 #
@@ -22,7 +23,7 @@ CPP_MACHINE ?= $(shell uname -m)
 CPP_LIBRARY ?= target/staticlib/libsuite.a
 CPP_METERS ?= target/staticlib
 CPP_OUT := target/cpp
-CPP_FLAGS := -std=c++17 -O2 -Wall -Wextra -Wpedantic -Iinclude
+CPP_FLAGS := -std=c++17 -O2 -Wall -Wextra -Wpedantic -Iinclude -Ibench -Itests/suite
 CPP_REFERENCE := bench/places.hpp bench/reference.hpp bench/sweep.hpp
 CPP_TABLES := bench/instructions.hpp bench/tables.hpp bench/times.hpp
 
@@ -53,7 +54,7 @@ CPP_HOW := , emulated
 endif
 
 .PHONY: cpp-test cpp-header cpp-example cpp-suite cpp-column cpp-small cpp-bench cpp-instructions cpp-tools cpp-ready
-.PHONY: cpp-always
+.PHONY: cpp-always cpp-objects
 
 cpp-test: cpp-header cpp-example cpp-suite cpp-column cpp-small
 
@@ -73,11 +74,10 @@ cpp-suite: $(CPP_OUT)/suite_test
 cpp-column: $(CPP_OUT)/column_test
 	@printf 'column at its limits$(CPP_HOW): '; $(CPP_RUN) $<
 
-cpp-small: $(CPP_OUT)/bench $(CPP_OUT)/calls $(CPP_OUT)/outlines $(CPP_OUT)/accounts
-	@printf 'benchmark$(CPP_HOW): '; $(CPP_RUN) $(CPP_OUT)/bench --small
-	@printf 'benchmark of calls$(CPP_HOW): '; $(CPP_RUN) $(CPP_OUT)/calls --small
-	@printf 'benchmark of outlines$(CPP_HOW): '; $(CPP_RUN) $(CPP_OUT)/outlines --small
-	@printf 'benchmark of accounts$(CPP_HOW): '; $(CPP_RUN) $(CPP_OUT)/accounts --small
+cpp-small: $(addprefix cpp-small-,bench calls outlines accounts)
+
+cpp-small-%: $(CPP_OUT)/%
+	@agreed=$$($(CPP_RUN) $< --small) && echo "$* on small grids$(CPP_HOW): $$agreed"
 
 ifeq ($(CPP_MACHINE),x86_64)
 cpp-bench: $(CPP_OUT)/bench $(CPP_OUT)/calls $(CPP_OUT)/outlines $(CPP_OUT)/accounts
@@ -106,39 +106,39 @@ cpp-instructions: $(CPP_OUT)/bench $(CPP_OUT)/outlines $(CPP_OUT)/accounts $(CPP
 	$(CPP_EMULATE) -cpu qemu64 $$plugin $(CPP_OUT)/outlines --work && echo && \
 	$(CPP_EMULATE) -cpu qemu64 $$plugin $(CPP_OUT)/accounts --work
 
-# Each program is linked with the archives that its rule names.
-CPP_ARCHIVES = $(filter %.a,$^)
+# Programs are compiled by themselves, so that it can be done while their archives are proved.
+CPP_PROGRAMS := $(addprefix $(CPP_OUT)/,example suite_test column_test bench calls outlines accounts)
+CPP_HARD := $(CPP_OUT)/suite_test $(CPP_OUT)/column_test
+CPP_OBJECTS := $(CPP_PROGRAMS:=.o)
 
-$(CPP_OUT)/example: examples/suite/example.cpp include/mayexoton.h $(CPP_OUT)/libsuite.a | cpp-ready
-	@$(CPP_CXX) $(CPP_FLAGS) $< $(CPP_ARCHIVES) -o $@
+cpp-objects: $(CPP_OBJECTS)
 
-$(CPP_OUT)/suite_test: tests/suite/suite_test.cpp tests/suite/definitions.hpp tests/suite/room.hpp \
-    include/mayexoton.h $(CPP_OUT)/libsuite.a | cpp-ready
-	@$(CPP_CXX) $(CPP_FLAGS) $(CPP_SANITIZE) $< $(CPP_ARCHIVES) -o $@
-
-$(CPP_OUT)/column_test: tests/suite/column_test.cpp tests/suite/room.hpp bench/meter.hpp \
-    $(CPP_OUT)/libmeter_runs.a | cpp-ready
-	@$(CPP_CXX) $(CPP_FLAGS) -Ibench $(CPP_SANITIZE) $< $(CPP_ARCHIVES) -o $@
-
-$(CPP_OUT)/bench: bench/bench.cpp bench/grids.hpp bench/instructions.hpp $(CPP_REFERENCE) bench/times.hpp \
-    include/mayexoton.h $(CPP_OUT)/libsuite.a | cpp-ready
-	@$(CPP_CXX) $(CPP_FLAGS) $< $(CPP_ARCHIVES) -o $@
-
-$(CPP_OUT)/calls: bench/calls.cpp bench/batches.hpp bench/grids.hpp bench/lent.hpp bench/meter.hpp \
-    $(CPP_REFERENCE) bench/runfile.hpp bench/times.hpp include/mayexoton.h $(CPP_OUT)/libsuite.a \
-    $(CPP_OUT)/libmeter_runs.a $(CPP_OUT)/libmeter_files.a | cpp-ready
-	@$(CPP_CXX) $(CPP_FLAGS) $< $(CPP_ARCHIVES) -o $@
-
-$(CPP_OUT)/outlines: bench/outlines.cpp bench/grids.hpp bench/lent.hpp bench/made_up_grids.hpp \
+$(CPP_OUT)/example.o: examples/suite/example.cpp include/mayexoton.h
+$(CPP_OUT)/suite_test.o: tests/suite/suite_test.cpp tests/suite/definitions.hpp tests/suite/room.hpp include/mayexoton.h
+$(CPP_OUT)/column_test.o: tests/suite/column_test.cpp tests/suite/room.hpp bench/meter.hpp
+$(CPP_OUT)/bench.o: bench/bench.cpp bench/grids.hpp bench/instructions.hpp $(CPP_REFERENCE) bench/times.hpp \
+    include/mayexoton.h
+$(CPP_OUT)/calls.o: bench/calls.cpp bench/batches.hpp bench/grids.hpp bench/lent.hpp bench/meter.hpp \
+    $(CPP_REFERENCE) bench/runfile.hpp bench/times.hpp include/mayexoton.h
+$(CPP_OUT)/outlines.o: bench/outlines.cpp bench/grids.hpp bench/lent.hpp bench/made_up_grids.hpp \
     bench/made_up_outlines.hpp bench/meter.hpp bench/outline.hpp $(CPP_REFERENCE) $(CPP_TABLES) \
-    tests/suite/definitions.hpp include/mayexoton.h $(CPP_OUT)/libsuite.a $(CPP_OUT)/libmeter_runs.a | cpp-ready
-	@$(CPP_CXX) $(CPP_FLAGS) -Itests/suite $< $(CPP_ARCHIVES) -o $@
-
-$(CPP_OUT)/accounts: bench/accounts.cpp bench/account.hpp bench/grids.hpp bench/lent.hpp bench/made_up_accounts.hpp \
+    tests/suite/definitions.hpp include/mayexoton.h
+$(CPP_OUT)/accounts.o: bench/accounts.cpp bench/account.hpp bench/grids.hpp bench/lent.hpp bench/made_up_accounts.hpp \
     bench/made_up_claims.hpp bench/made_up_grids.hpp bench/meter.hpp $(CPP_REFERENCE) $(CPP_TABLES) \
-    tests/suite/accounts.hpp tests/suite/definitions.hpp include/mayexoton.h $(CPP_OUT)/libsuite.a \
-    $(CPP_OUT)/libmeter_accounts.a | cpp-ready
-	@$(CPP_CXX) $(CPP_FLAGS) -Itests/suite $< $(CPP_ARCHIVES) -o $@
+    tests/suite/accounts.hpp tests/suite/definitions.hpp include/mayexoton.h
+
+$(CPP_HARD:=.o) $(CPP_HARD): CPP_FLAGS += $(CPP_SANITIZE)
+$(CPP_OBJECTS): | cpp-ready $(CPP_OUT)
+	@$(CPP_CXX) $(CPP_FLAGS) -c $< -o $@
+
+# Each program is linked with the archives that its line names.
+$(CPP_OUT)/example $(CPP_OUT)/suite_test $(CPP_OUT)/bench: $(CPP_OUT)/libsuite.a
+$(CPP_OUT)/column_test: $(CPP_OUT)/libmeter_runs.a
+$(CPP_OUT)/calls: $(CPP_OUT)/libsuite.a $(CPP_OUT)/libmeter_runs.a $(CPP_OUT)/libmeter_files.a
+$(CPP_OUT)/outlines: $(CPP_OUT)/libsuite.a $(CPP_OUT)/libmeter_runs.a
+$(CPP_OUT)/accounts: $(CPP_OUT)/libsuite.a $(CPP_OUT)/libmeter_accounts.a
+$(CPP_PROGRAMS): %: %.o
+	@$(CPP_CXX) $(CPP_FLAGS) $(filter %.o,$^) $(filter %.a,$^) -o $@
 
 # For this machine, as the emulator is.
 $(CPP_OUT)/libcounter.so: bench/counter.cpp bench/instructions.hpp | $(CPP_OUT)
