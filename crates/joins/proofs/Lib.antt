@@ -4,6 +4,7 @@ pub mod Ground  -- what every step is in
 pub mod Stores  -- what the small steps leave in the work area
 pub mod Onward  -- what is known, told from a later work area
 pub mod Searching  -- a head looked for
+pub mod Itself  -- the cell that is taken, by itself
 mod Leading  -- a note paid to an island
 mod LeadAnswers  -- the answers of `lead`
 mod Merging  -- two groups become one
