@@ -20,7 +20,7 @@ use Rattle.record.specs.declared.Checked.the-variants.{Good, Bad}
 use Rattle.record.specs.Refusals.{Told, granted, checkedTold, firstOf, toldBy}
 use Rattle.record.proofs.Refusals.{refusals-differ, told-refused}
 use Rattle.record.proofs.Tests.{granted-good, bad-not-good}
-use Rattle.record.proofs.Claims.{claims as record-claims}
+use Rattle.scale.proofs.Levels.{level-injective}
 use Rattle.heights.specs.Grid.{gridTests}
 use Rattle.table.proofs.Handed.{worked-unique}
 use Rattle.account.specs.declared.Accounted.{Accounted}
@@ -38,7 +38,7 @@ valueAt i t = getD (t .values) i 0
 pub accounted-differ : AccountedDiffer
 unfolding valueAt
 accounted-differ (Given.Given k p i) (Given.Given k′ p′ i′) f f′ e =
-    let ek = record-claims .level-injective k k′ f f′ (ap (valueAt 0) e) in
+    let ek = level-injective {a = k} {b = k′} f f′ (ap (valueAt 0) e) in
     let ep = ap (valueAt 1) e in
     let ei = ap (valueAt 2) e in
     rw (ek, ep, ei) refl

@@ -4,7 +4,8 @@ ghost use mathlib.Core.Path.{_≡_};
 ghost use Prim.Native.Nat.{_*_, _%_};
 ghost use lib.Dec.{eqb, ltb};
 ghost use Rattle.relief.specs.Heights.{levelOf};
-ghost use Rattle.record.specs.Records.{isMark, withKey, withoutKey, Prominent};
+ghost use Rattle.scale.specs.Prominence.{isMark, Prominent};
+ghost use Rattle.record.specs.Records.{withKey, withoutKey};
 ghost use Rattle.record.specs.Refusals.{toldOf, badRows};
 ghost use Rattle.record.specs.Inner.{thenTest};
 

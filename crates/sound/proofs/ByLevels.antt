@@ -21,8 +21,8 @@ use Rattle.relief.specs.Heights.{BLANK, levelOf}
 use Rattle.relief.specs.Inner.{Decides}
 use Rattle.relief.proofs.Tests.{eq-decides, decides-iff, refuted}
 use Rattle.record.specs.declared.Peak.{Peak}
-use Rattle.record.specs.Records.{isMark}
-use Rattle.record.proofs.Levels.{level-blank-iff, level-injective, level-lt-iff}
+use Rattle.scale.specs.Prominence.{isMark}
+use Rattle.scale.proofs.Levels.{level-blank-iff, level-injective, level-lt-iff}
 use Rattle.sound.specs.Sound.{Keyless, Keyed, Sound}
 
 pub mark-decides : {z : ℤ} → SFits w32 z → Decides (z ≡ BLANK) (isMark z)

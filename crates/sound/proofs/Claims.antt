@@ -17,7 +17,7 @@ use Rattle.relief.proofs.Keys.{key-land, key-below}
 use Rattle.relief.proofs.Levels.{heightOf-level}
 use Rattle.record.specs.declared.Peak.{Peak}
 use Rattle.record.specs.Records.{keyRecord, recordOf}
-use Rattle.record.proofs.Levels.{level-below, level-injective, level-blank-iff, level-lt-iff}
+use Rattle.scale.proofs.Levels.{level-below, level-injective, level-blank-iff, level-lt-iff}
 use Rattle.sound.specs.Sound.{Keyless, Keyed, Sound, ithOf, leastAt}
 use Rattle.sound.specs.Claims.{ListSound, Claims}
 

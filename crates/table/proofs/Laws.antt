@@ -18,7 +18,7 @@ use mir.ValLaws.{toZ-ofZ}
 use Rattle.relief.specs.Heights.{levelOf, heightOf}
 use Rattle.relief.proofs.Levels.{heightOf-level}
 use Rattle.record.specs.Records.{withKey, withoutKey}
-use Rattle.record.proofs.Levels.{level-injective}
+use Rattle.scale.proofs.Levels.{level-injective}
 use Rattle.area.specs.Area.{levelIn, orderIn, parentIn, passIn, cellIn}
 use Rattle.table.specs.Inner.{Pointed, peakIn, recordsIn, Standing}
 use Rattle.table.proofs.Grows.{Grows}

@@ -7,7 +7,7 @@ use lib.IntN.{ℤ, pos, _-ℤ_}
 use mir.Syntax.{w32, w64}
 use mir.Val.{SFits, toZ}
 use mir.ValLaws.{toZ-pos, toZ-ofZ}
-use Rattle.record.proofs.Levels.{level-onto}
+use Rattle.scale.proofs.Levels.{level-onto}
 use Rattle.record.proofs.Widths.{wide-fits}
 use Rattle.record.proofs.height.Statement.{statement}
 use Rattle.record.proofs.height.Tie as tie

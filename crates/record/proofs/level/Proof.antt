@@ -5,7 +5,7 @@ use lib.IntN.{pos, _+ℤ_}
 use mir.Syntax.{w32, w64}
 use mir.Val.{toZ, ofZ}
 use Rattle.relief.specs.Heights.{levelOf}
-use Rattle.record.proofs.Levels.{level-raise, level-below}
+use Rattle.scale.proofs.Levels.{level-raise, level-below}
 use Rattle.record.proofs.Widths.{wide-cast, wide-read, natural-fits, natural-cast, natural-read}
 use Rattle.record.proofs.level.Statement.{statement}
 use Rattle.record.proofs.level.Tie as tie

@@ -9,7 +9,7 @@ use mir.Syntax.{w32, w64}
 use mir.Val.{toZ, ofZ}
 use mir.ValLaws.{toZ-ofZ}
 use Rattle.relief.specs.Heights.{levelOf}
-use Rattle.record.proofs.Levels.{level-below, level-difference}
+use Rattle.scale.proofs.Levels.{level-below, level-difference}
 use Rattle.record.proofs.Widths.{wide-cast, wide-read, natural-fits, natural-cast, natural-read}
 use Rattle.record.proofs.prominence.Statement.{statement}
 use Rattle.record.proofs.prominence.Tie as tie

@@ -9,8 +9,8 @@ use mir.Syntax.{w32}
 use mir.Val.{SFits}
 use mir.ValLaws.{toZ-ofZ}
 use Rattle.relief.specs.Heights.{levelOf}
-use Rattle.record.specs.Records.{isMark}
-use Rattle.record.proofs.Levels.{level-lt-iff}
+use Rattle.scale.specs.Prominence.{isMark}
+use Rattle.scale.proofs.Levels.{level-lt-iff}
 use Rattle.sound.proofs.ByLevels.{keyless-decides, keyed-refuted, keyed-decides}
 use Rattle.sound.proofs.has_fit_keys.Statement.{statement}
 use Rattle.sound.proofs.has_fit_keys.Tie as tie

@@ -8,7 +8,7 @@ use mir.Val.{SFits}
 use mir.ValLaws.{toZ-ofZ}
 use Rattle.relief.specs.Heights.{levelOf}
 use Rattle.relief.proofs.Tests.{refuted}
-use Rattle.record.specs.Records.{isMark}
+use Rattle.scale.specs.Prominence.{isMark}
 use Rattle.sound.proofs.ByLevels.{mark-decides, sound-decides}
 use Rattle.sound.proofs.is_sound.Statement.{statement}
 use Rattle.sound.proofs.is_sound.Tie as tie

@@ -1,5 +1,5 @@
 -- `record::Cell::is_blank` meets its contract. Comparing bits finds the mark (`mark-bits`). Assumes nothing.
-use Rattle.record.proofs.Levels.{mark-bits}
+use Rattle.scale.proofs.Levels.{mark-bits}
 use Rattle.record.proofs.Cell.is_blank.Statement.{statement}
 use Rattle.record.proofs.Cell.is_blank.Tie as tie
 

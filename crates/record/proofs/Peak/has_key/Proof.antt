@@ -1,7 +1,7 @@
 -- `record::Peak::has_key` meets its contract. Comparing bits finds the mark (`mark-bits`). Assumes nothing.
 use mathlib.Core.Bool.{not}
 use mathlib.Core.Path.{ap}
-use Rattle.record.proofs.Levels.{mark-bits}
+use Rattle.scale.proofs.Levels.{mark-bits}
 use Rattle.record.proofs.Peak.has_key.Statement.{statement}
 use Rattle.record.proofs.Peak.has_key.Tie as tie
 

@@ -22,9 +22,9 @@ use lib.Signed.{_≤ℤ_, _<ℤ_, ltZ, ltZ-yes, ltZ-no, clashℤ}
 use mir.Syntax.{w32}
 use mir.Val.{SFits, ofZ}
 use Rattle.relief.specs.Heights.{levelOf}
-use Rattle.record.specs.Records.{isMark}
-use Rattle.record.specs.Claims.{LevelBelow, LevelBlank, LevelInjective, LevelLe, LevelLt, LevelDifference}
-use Rattle.record.specs.Claims.{ProminentLevels}
+use Rattle.scale.specs.Prominence.{isMark}
+use Rattle.scale.specs.Claims.{LevelBelow, LevelBlank, LevelInjective, LevelLe, LevelLt, LevelDifference}
+use Rattle.scale.specs.Claims.{ProminentLevels}
 
 -- ---- the difference of two naturals, and tests that agree
 

@@ -1,0 +1,1 @@
+// Heights as levels, the blank mark among them, and prominence: mathematics alone.
