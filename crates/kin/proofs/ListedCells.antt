@@ -12,9 +12,9 @@ use lib.Dec.{eqb}
 use Rattle.relief.proofs.Tests.{split, le-or-lt, true-not-false}
 use Rattle.words.specs.Words.{wordAt}
 use Rattle.area.specs.Area.{levelIn, parentIn, passOf, cellIn}
-use Rattle.survey.specs.declared.Part.the-variants.{Whole}
-use Rattle.survey.specs.Inner.{chosenIn, listedIn}
-use Rattle.survey.proofs.ChosenCells.{chosen-blank, chosen-top, chosen-slope}
+use Rattle.choice.specs.declared.Part.the-variants.{Whole}
+use Rattle.choice.specs.Inner.{chosenIn, listedIn}
+use Rattle.choice.proofs.ChosenCells.{chosen-blank, chosen-top, chosen-slope}
 use Rattle.kin.specs.Inner.{listed}
 
 module _ (s : List ℕ) (n T c : ℕ) where

@@ -18,7 +18,7 @@ use lib.Dec.{eqb}
 use borrow.Author.Tests.{ne-eqb}
 use Rattle.relief.proofs.Tests.{split, test, below-suc, true-not-false}
 use Rattle.area.specs.Area.{levelIn, parentIn, passIn, passOf, cellIn, markIn}
-use Rattle.survey.specs.Inner.{Choosing}
+use Rattle.choice.specs.Inner.{Choosing}
 use Rattle.kin.specs.Inner.{Row, listed, Hangs, firstIn, Hanging, Hung, Entered, Filed, FiledCell, left, top}
 use Rattle.kin.specs.Inner.{hung}
 use Rattle.kin.proofs.Chains.{row-none, row-same, row-more}

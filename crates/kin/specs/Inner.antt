@@ -20,8 +20,8 @@ use lib.ListN.{length}
 use Rattle.words.specs.Words.{wordAt}
 use Rattle.area.specs.Area.{Area, levelIn, parentIn, passIn, passOf, cellIn, markIn, Kept, prio}
 use Rattle.sweep.specs.Sweep.{cellAt, Ordered}
-use Rattle.survey.specs.declared.Part.the-variants.{Whole}
-use Rattle.survey.specs.Inner.{chosenIn}
+use Rattle.choice.specs.declared.Part.the-variants.{Whole}
+use Rattle.choice.specs.Inner.{chosenIn}
 use Rattle.kin.specs.Kin.{Chain}
 
 -- ---- chains of known cells

@@ -4,7 +4,7 @@ ghost use Prim.Native.Nat.{_<_};
 ghost use Rattle.relief.specs.Plane.{planeOf, touchOf};
 ghost use Rattle.area.specs.Area.{Area, passOf};
 ghost use Rattle.survey.specs.Answers.{TopsNoted};
-ghost use Rattle.survey.specs.Inner.{Choosing};
+ghost use Rattle.choice.specs.Inner.{Choosing};
 ghost use Rattle.kin.specs.Kin.{isTop, Kinned};
 ghost use Rattle.kin.specs.Inner.{firstIn, Hanging, Hung, Hangable, Entered, Filed, FiledCell};
 ghost use Rattle.kin.specs.Inner.{Threading, Threaded, Threadable, ThreadedCell};
@@ -52,7 +52,7 @@ fn file(work: &mut [u8], n: usize, c: usize, threshold: u32)
     requires { ⌜ Choosing (now work) n c ⌝ }
     ensures { λ r. ⌜ FiledCell (now (work .entry)) (now (work .exit)) n threshold c ⌝ }
 {
-    if !survey::chosen(work, n, c, threshold, survey::Part::Whole) {
+    if !choice::chosen(work, n, c, threshold, choice::Part::Whole) {
         return;
     }
     if words::index(words::get(work, 2 * n + c)) == c {

@@ -22,9 +22,9 @@ use Rattle.words.proofs.Laws.{Bytes, bytes-beyond}
 use Rattle.area.specs.Area.{Area, levelIn, orderIn, parentIn, passOf, reachOf, shoreOf, cellIn, markIn}
 use Rattle.groups.specs.Groups.{Shores}
 use Rattle.sweep.specs.Sweep.{Surveyed}
-use Rattle.survey.specs.declared.Part.{Part}
-use Rattle.survey.specs.declared.Part.the-variants.{Whole, Closing, Open}
-use Rattle.survey.specs.Inner.{wantsPart, listedIn, openIn, chosenIn, Collected}
+use Rattle.choice.specs.declared.Part.{Part}
+use Rattle.choice.specs.declared.Part.the-variants.{Whole, Closing, Open}
+use Rattle.choice.specs.Inner.{wantsPart, listedIn, openIn, chosenIn, Collected}
 use Rattle.survey.specs.Answers.{entryIn, Answered}
 use Rattle.survey.proofs.Places.{places-order}
 use Rattle.survey.proofs.CellKinds.{always, never, decides-as, Kind, kind, test-blank, test-root, test-slope}

@@ -1,0 +1,2 @@
+pub mod ChosenCells  -- the answers of `chosen`
+pub mod Marks  -- the closed peaks of the first columns marked
