@@ -10,8 +10,8 @@ use Prim.Native.Nat.{ℕ, _+_}
 use lib.IntN.{ℤ}
 use lib.ListN.{length}
 use Rattle.table.specs.Promises.{Worked}
-use Rattle.run.specs.declared.Run.{Run}
-use Rattle.run.specs.Promises.{heldOf, columnTests}
+use Rattle.running.specs.declared.Run.{Run}
+use Rattle.running.specs.Running.{heldOf, columnTests}
 use Rattle.outline.specs.Promises.{outlineTests}
 use Rattle.meter_runs.specs.Promises.{MeterColumns, MeterOutlines}
 

@@ -8,8 +8,9 @@ use Prim.Native.Nat.{ℕ, _+_}
 use lib.IntN.{ℤ}
 use lib.ListN.{length}
 use Rattle.record.specs.Refusals.{firstOf}
-use Rattle.run.specs.declared.Run.{Run}
-use Rattle.run.specs.Promises.{heldOf, columnTests, columnGrid, ColumnBatch}
+use Rattle.running.specs.declared.Run.{Run}
+use Rattle.running.specs.Running.{heldOf, columnTests}
+use Rattle.run.specs.Promises.{columnGrid, ColumnBatch}
 use Rattle.outline.specs.declared.Outlined.{Outlined}
 use Rattle.outline.specs.Promises.{outlinedTold, Outlines}
 use Rattle.layout.specs.Promises.{signedTold, HandsBytes}

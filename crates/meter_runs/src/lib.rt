@@ -5,7 +5,7 @@
 ghost use mathlib.Core.Path.{_≡_};
 ghost use Prim.Native.Nat.{_+_, _*_};
 ghost use Rattle.layout.specs.Promises.{signedTold};
-ghost use Rattle.run.specs.Promises.{growingRun, withEnd};
+ghost use Rattle.running.specs.Running.{growingRun, withEnd};
 ghost use Rattle.outline.specs.Promises.{outlinedTold};
 ghost use Rattle.meter_runs.specs.Promises.{MeterColumns, MeterOutlines};
 use outline::Outlined;

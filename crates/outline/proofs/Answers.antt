@@ -33,8 +33,8 @@ use Rattle.area.specs.Area.{levelIn}
 use Rattle.table.proofs.Handed.{worked-early, worked-late}
 use Rattle.lines.specs.Lines.{Printed}
 use Rattle.kin.specs.Kin.{isTop}
-use Rattle.run.specs.declared.Run.{Run}
-use Rattle.run.specs.Promises.{shapeOf, heldOf}
+use Rattle.running.specs.declared.Run.{Run}
+use Rattle.running.specs.Running.{shapeOf, heldOf}
 use Rattle.outline.specs.declared.Outlined.{Outlined}
 use Rattle.outline.specs.declared.Outlined.the-variants.{Bytes, Refused}
 use Rattle.outline.specs.Promises.{outlinedTold, outlineTests, Outlines}

@@ -17,8 +17,8 @@ use Rattle.record.specs.Refusals.{firstOf}
 use Rattle.record.specs.Inner.{thenTest}
 use Rattle.record.proofs.Refusals.{rows-known}
 use Rattle.record.proofs.Tests.{Makes, then, first-passed}
-use Rattle.run.specs.declared.Run.{Run}
-use Rattle.run.specs.Promises.{heldOf, runTests}
+use Rattle.running.specs.declared.Run.{Run}
+use Rattle.running.specs.Running.{heldOf, runTests}
 use Rattle.outline.specs.Promises.{badLevels, outlineTests}
 use Rattle.outline.specs.Inner.{GoodOutline}
 

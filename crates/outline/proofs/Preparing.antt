@@ -17,8 +17,8 @@ use Rattle.area.specs.Area.{levelIn}
 use Rattle.heights.specs.Inner.{Loading, Loaded}
 use Rattle.survey.specs.Answers.{Surveying, Topped}
 use Rattle.kin.specs.Kin.{Kinned}
-use Rattle.run.specs.declared.Run.{Run}
-use Rattle.run.specs.Promises.{shapeOf, heldOf}
+use Rattle.running.specs.declared.Run.{Run}
+use Rattle.running.specs.Running.{shapeOf, heldOf}
 use Rattle.run.proofs.Columns.{loaded-stage}
 use Rattle.outline.specs.Inner.{Linkable, Prepared}
 

@@ -10,8 +10,8 @@ use Prim.Native.Nat.{ℕ}
 use lib.IntN.{ℤ}
 use lib.ListN.{length}
 use Rattle.table.specs.Promises.{Worked}
-use Rattle.run.specs.declared.Run.{Run}
-use Rattle.run.specs.Promises.{heldOf}
+use Rattle.running.specs.declared.Run.{Run}
+use Rattle.running.specs.Running.{heldOf}
 use Rattle.outline.specs.declared.Outlined.{Outlined}
 use Rattle.outline.specs.Promises.{outlinedTold, outlineTests, Outlines}
 

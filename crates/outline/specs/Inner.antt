@@ -26,8 +26,8 @@ use Rattle.kin.specs.Kin.{Chain, passesIn, peaksIn, childrenIn, isTop, Kinned}
 use Rattle.record.specs.declared.Refusal.the-variants.{TextRoom}
 use Rattle.record.specs.declared.Checked.the-variants.{Good}
 use Rattle.record.specs.Refusals.{firstOf}
-use Rattle.run.specs.declared.Run.{Run}
-use Rattle.run.specs.Promises.{shapeOf, heldOf}
+use Rattle.running.specs.declared.Run.{Run}
+use Rattle.running.specs.Running.{shapeOf, heldOf}
 use Rattle.outline.specs.declared.Outlined.{Outlined}
 use Rattle.outline.specs.declared.Outlined.the-variants.{Bytes, Refused}
 use Rattle.outline.specs.Promises.{outlineTests, textAfter}

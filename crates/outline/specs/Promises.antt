@@ -20,8 +20,8 @@ use Rattle.record.specs.declared.Refusal.{Refusal}
 use Rattle.record.specs.declared.Refusal.the-variants.{Work, Levels, TextRoom, NotEnded}
 use Rattle.record.specs.Refusals.{Told, granted, toldOf, toldBy}
 use Rattle.table.specs.Promises.{Worked}
-use Rattle.run.specs.declared.Run.{Run}
-use Rattle.run.specs.Promises.{shapeOf, heldOf, runTests}
+use Rattle.running.specs.declared.Run.{Run}
+use Rattle.running.specs.Running.{shapeOf, heldOf, runTests}
 use Rattle.outline.specs.declared.Outlined.{Outlined}
 use Rattle.outline.specs.declared.Outlined.the-variants.{Bytes, Refused}
 

@@ -33,10 +33,10 @@ fn check(run: Run, grid: usize, levels: u32, work: usize) -> Checked
     ensures { λ r. ⌜ r ≡ firstOf (outlineTests run grid levels work) ⌝ }
 {
     let ended = run.ended;
-    let checked = run::check_run(run, grid);
+    let checked = running::check_run(run, grid);
     let checked = record::then_test(checked, !ended, Refusal::NotEnded);
     let checked = record::then_test(checked, bad_levels(levels), Refusal::Levels);
-    let short = record::short_work(work, run::held_cells(run));
+    let short = record::short_work(work, running::held_cells(run));
     record::then_test(checked, short, Refusal::Work)
 }
 
@@ -45,7 +45,7 @@ fn prepare(run: Run, grid: &[i32], work: &mut [u8]) -> usize
     requires { ⌜ Linkable run (length (now grid)) (length (now work)) ⌝ }
     ensures { λ r. ⌜ Prepared run (now (grid .entry)) (now (work .entry)) (now (work .exit)) r ⌝ }
 {
-    let n = run::held_cells(run);
+    let n = running::held_cells(run);
     let rows = words::index(run.rows);
     heights::load(work, grid, n);
     let m = survey::tops(work, n, rows);
@@ -76,7 +76,7 @@ fn outline_good(run: Run, grid: &[i32], levels: u32, work: &mut [u8], text: &mut
     if prepare(run, grid, work) == 0 {
         return Outlined::Bytes(0);
     }
-    print(work, run::held_cells(run), levels, text)
+    print(work, running::held_cells(run), levels, text)
 }
 
 // The outline of the listed peaks of an ended run, to so many levels, as lines of text.

@@ -36,9 +36,11 @@ use Rattle.table.specs.Inner.{roomAnswer}
 use Rattle.table.proofs.Handed.{worked-late, flat-refused, flat-made}
 use Rattle.survey.specs.Answers.{entriesIn, Surveying, Answered, stageIn}
 use Rattle.survey.proofs.Records.{places-record, places-length}
-use Rattle.run.specs.declared.Run.{Run}
-use Rattle.run.specs.Promises.{shapeOf, heldOf, columnTests, endTests, columnGrid, columnRun, endRun, heightsWith}
-use Rattle.run.specs.Inner.{ColumnsFlat, EndsFlat, GoodColumn, GoodEnd}
+use Rattle.running.specs.declared.Run.{Run}
+use Rattle.running.specs.Running.{shapeOf, heldOf, columnTests, endTests, columnRun, endRun}
+use Rattle.run.specs.Promises.{columnGrid, heightsWith}
+use Rattle.running.specs.Inner.{GoodColumn, GoodEnd}
+use Rattle.run.specs.Inner.{ColumnsFlat, EndsFlat}
 
 -- ---- the copy of a column
 

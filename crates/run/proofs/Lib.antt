@@ -1,8 +1,6 @@
-pub mod Checks  -- the tests, made and passed
 pub mod Columns  -- Column and End where a test refuses and where none does
 pub mod Rows  -- the row filled from what a flat call leaves
 pub mod Values  -- the machine's values of run records and steps
-pub mod HeldCall  -- the call of `held_cells` as a step
 pub mod Outcomes  -- one outcome, and the taken cells
 pub mod WholeRun  -- demand 3 from the promises
 pub mod Claims  -- a proof of each claim

@@ -6,7 +6,7 @@
 -- Assumes nothing.
 use mathlib.Core.Path.{_≡_, refl, sym, _∙_, ap, ap₂}
 use mathlib.Core.Bool.{Bool, true, false, cond}
-use mathlib.Core.List.{List, [], _++_}
+use mathlib.Core.List.{List, _++_}
 use Prim.Native.Nat.{ℕ, _+_, _*_, _≤_}
 use native.Mathlib.Nat.{suc-mul}
 use native.Mathlib.Numerals.{add-one}
@@ -25,15 +25,17 @@ use Rattle.record.specs.declared.Handed.the-variants.{Count, Refused}
 use Rattle.record.specs.Refusals.{Told, firstOf, checkedTold, badRows}
 use Rattle.record.proofs.Refusals.{refusals-differ, told-refused}
 use Rattle.table.proofs.Handed.{told-passed, hands-unique, flat-unique}
-use Rattle.run.specs.declared.Run.{Run}
+use Rattle.running.specs.declared.Run.{Run}
 use Rattle.run.specs.declared.Started.{Started}
 use Rattle.run.specs.declared.Started.the-variants as started
-use Rattle.run.specs.Promises.{heldOf, startedRun, startedTold, Starts, columnTests, columnGrid, columnRun}
-use Rattle.run.specs.Promises.{endRun, Columns}
-use Rattle.run.specs.Inner.{GoodColumn}
+use Rattle.running.specs.Running.{heldOf, startedRun, columnTests, columnRun}
+use Rattle.run.specs.Promises.{startedTold, Starts, columnGrid}
+use Rattle.running.specs.Running.{endRun}
+use Rattle.run.specs.Promises.{Columns}
+use Rattle.running.specs.Inner.{GoodColumn}
 use Rattle.run.specs.Claims.{StartUnique, ColumnUnique, EndUnique, ColumnFlatUnique, EndFlatUnique, ColumnTakes}
 use Rattle.run.specs.Claims.{ColumnKeeps}
-use Rattle.run.proofs.Checks.{column-passed}
+use Rattle.running.proofs.Checks.{column-passed}
 
 -- ---- Start
 

@@ -15,8 +15,9 @@ use Rattle.record.specs.declared.Handed.{Handed}
 use Rattle.record.specs.declared.Handed.the-variants.{Count}
 use Rattle.table.specs.Inner.{recordsIn, Fillable, countIn, cellsRead}
 use Rattle.table.proofs.Handed.{flat-fillable, flat-hands}
-use Rattle.run.specs.declared.Run.{Run}
-use Rattle.run.specs.Promises.{heldOf, columnRun, endRun, Columns, Ends}
+use Rattle.running.specs.declared.Run.{Run}
+use Rattle.running.specs.Running.{heldOf, columnRun, endRun}
+use Rattle.run.specs.Promises.{Columns, Ends}
 use Rattle.run.specs.Inner.{ColumnsFlat, EndsFlat}
 
 -- ---- End

@@ -14,10 +14,10 @@ use Rattle.table.proofs.Logic.{URA, Val, hasTy, WT, Heap, Atoms, Given, Is}
 use Rattle.record.proofs.Handed as S
 use Rattle.record.proofs.Handed.Laws as S′
 use Rattle.table.proofs.Parameters.{Parameter, plainly}
-use Rattle.run.specs.declared.Run.{Run}
+use Rattle.running.specs.declared.Run.{Run}
 use Rattle.run.specs.declared.Step.{Step}
-use Rattle.run.proofs.Run as N
-use Rattle.run.proofs.Run.Laws as N′
+use Rattle.running.proofs.Run as N
+use Rattle.running.proofs.Run.Laws as N′
 use Rattle.run.proofs.Step as U
 use Rattle.run.proofs.Step.Laws as U′
 

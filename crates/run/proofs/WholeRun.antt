@@ -20,9 +20,10 @@ use Rattle.relief.specs.Plane.{Shape, touchOf, newestOf, stageOf}
 use Rattle.relief.proofs.Tests.{split, below-suc}
 use Rattle.theorems.proofs.Claims.{shape-touching, claims}
 use Rattle.record.specs.declared.Handed.the-variants.{Count}
-use Rattle.run.specs.declared.Run.{Run}
+use Rattle.running.specs.declared.Run.{Run}
 use Rattle.run.specs.declared.Started.the-variants as started
-use Rattle.run.specs.Promises.{shapeOf, heldOf, columnRun, Starts}
+use Rattle.running.specs.Running.{shapeOf, heldOf, columnRun}
+use Rattle.run.specs.Promises.{Starts}
 use Rattle.run.specs.WholeRun.{Calls, begun, taken, refused, unended}
 use Rattle.run.specs.Claims.{RunHolds}
 use Rattle.run.proofs.Outcomes.{start-begun, taken-passed}

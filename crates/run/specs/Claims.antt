@@ -17,9 +17,10 @@ use Rattle.record.specs.declared.Handed.{Handed}
 use Rattle.record.specs.declared.Handed.the-variants.{Count, Refused}
 use Rattle.table.specs.Promises.{Worked}
 use Rattle.table.specs.Inner.{recordsIn}
-use Rattle.run.specs.declared.Run.{Run}
+use Rattle.running.specs.declared.Run.{Run}
 use Rattle.run.specs.declared.Started.{Started}
-use Rattle.run.specs.Promises.{shapeOf, heldOf, columnTests, endTests, Starts, Columns, Ends}
+use Rattle.running.specs.Running.{shapeOf, heldOf, columnTests, endTests}
+use Rattle.run.specs.Promises.{Starts, Columns, Ends}
 use Rattle.run.specs.Inner.{ColumnsFlat, EndsFlat}
 use Rattle.run.specs.WholeRun.{Calls, HoldsList}
 

@@ -15,9 +15,10 @@ use Rattle.relief.specs.Plane.{Shape, touchOf, stageOf}
 use Rattle.record.specs.declared.Peak.{Peak}
 use Rattle.record.specs.declared.Refusal.{Refusal}
 use Rattle.record.specs.declared.Handed.the-variants.{Count, Refused}
-use Rattle.run.specs.declared.Run.{Run}
+use Rattle.running.specs.declared.Run.{Run}
 use Rattle.run.specs.declared.Started.the-variants as started
-use Rattle.run.specs.Promises.{heldOf, Starts, Columns, Ends}
+use Rattle.running.specs.Running.{heldOf}
+use Rattle.run.specs.Promises.{Starts, Columns, Ends}
 
 -- Refused calls of Column and End, with whatever they were lent, may stand between accepted ones.
 pub data Calls : Run → List ℤ → List (List Entry) → Type 0 where

@@ -1,32 +1,16 @@
 // A growing run: Start, Column and End, over the flat core, and the lent row of records filled from it.
-mod records; // records.rt: the run record
-mod tests; // tests.rt: the tests before the work
-
 ghost use mathlib.Core.Path.{_≡_};
 ghost use Prim.Native.Nat.{_+_, _≤_};
 ghost use lib.ListN.{length};
 ghost use lib.Seq.{paste};
 ghost use Rattle.run.specs.Promises.{Starts, Columns, Ends};
-ghost use Rattle.run.specs.Inner.{ColumnsFlat, EndsFlat, GoodColumn, GoodEnd};
-use crate::records::after_column;
-use crate::records::after_end;
-use crate::tests::check_column;
-use crate::tests::check_end;
+ghost use Rattle.running.specs.Inner.{GoodColumn, GoodEnd};
+ghost use Rattle.run.specs.Inner.{ColumnsFlat, EndsFlat};
 use record::Checked;
 use record::Handed;
 use record::Peak;
 use record::Refusal;
-// What other calls with a run record need.
-pub use records::held_cells;
-pub use tests::check_run;
-
-// A run record: rows, columns taken, threshold and whether the run has ended.
-pub struct Run {
-    pub rows: u32,
-    pub columns: u32,
-    pub threshold: u32,
-    pub ended: bool,
-}
+pub use running::Run;
 
 // What Start answers: a record of zero columns, or why it is refused.
 pub enum Started {
@@ -70,14 +54,14 @@ fn column_good(run: Run, column: &[i32], grid: &mut [i32], work: &mut [u8], room
         (now (work .entry)) room (now (work .exit)) (r .run) (r .handed) ⌝ }
 {
     let rows = words::index(run.rows);
-    let held = held_cells(run);
+    let held = running::held_cells(run);
     let n = held + rows;
     copy(grid, held, column);
     heights::load(work, grid, n);
     let count = survey::closing(work, n, held, rows, run.threshold);
     let handed = table::room_answer(count, room);
     Step {
-        run: after_column(run, handed),
+        run: running::after_column(run, handed),
         handed: handed,
     }
 }
@@ -88,12 +72,12 @@ fn end_good(run: Run, grid: &[i32], work: &mut [u8], room: usize) -> Step
     ensures { λ r. ⌜ EndsFlat run (now (grid .entry)) (now (work .entry)) room (now (work .exit))
         (r .run) (r .handed) ⌝ }
 {
-    let held = held_cells(run);
+    let held = running::held_cells(run);
     heights::load(work, grid, held);
     let count = survey::rest(work, held, words::index(run.rows), run.threshold);
     let handed = table::room_answer(count, room);
     Step {
-        run: after_end(run, handed),
+        run: running::after_end(run, handed),
         handed: handed,
     }
 }
@@ -103,7 +87,7 @@ pub fn column_flat(run: Run, column: &[i32], grid: &mut [i32], work: &mut [u8], 
     ensures { λ r. ⌜ ColumnsFlat run (now (column .entry)) (now (grid .entry)) (now (grid .exit))
         (now (work .entry)) room (now (work .exit)) (r .run) (r .handed) ⌝ }
 {
-    let checked = check_column(run, column.len(), grid.len(), work.len());
+    let checked = running::check_column(run, column.len(), grid.len(), work.len());
     match checked {
         Checked::Bad(refusal) => Step {
             run: run,
@@ -118,7 +102,7 @@ pub fn end_flat(run: Run, grid: &[i32], work: &mut [u8], room: usize) -> Step
     ensures { λ r. ⌜ EndsFlat run (now (grid .entry)) (now (work .entry)) room (now (work .exit))
         (r .run) (r .handed) ⌝ }
 {
-    let checked = check_end(run, grid.len(), work.len());
+    let checked = running::check_end(run, grid.len(), work.len());
     match checked {
         Checked::Bad(refusal) => Step {
             run: run,
@@ -143,7 +127,7 @@ pub fn column(
     let step = column_flat(run, column, grid, work, room);
     let after = step.run;
     let handed = step.handed;
-    let cells = table::cells_of(handed, held_cells(after));
+    let cells = table::cells_of(handed, running::held_cells(after));
     let count = table::count_of(handed);
     table::fill(table, work, cells, count);
     step
@@ -158,7 +142,7 @@ pub fn end(run: Run, grid: &[i32], work: &mut [u8], table: &mut [Peak]) -> Step
     let step = end_flat(run, grid, work, room);
     let after = step.run;
     let handed = step.handed;
-    let cells = table::cells_of(handed, held_cells(after));
+    let cells = table::cells_of(handed, running::held_cells(after));
     let count = table::count_of(handed);
     table::fill(table, work, cells, count);
     step

@@ -8,7 +8,7 @@ use lib.ListN.{length, getD, drop, length-append}
 use borrow.Author.Needs.{needs}
 use Rattle.record.specs.Refusals.{Told, granted}
 use Rattle.record.proofs.Tests.{granted-good, told-by}
-use Rattle.run.specs.declared.Run.{Run}
+use Rattle.running.specs.declared.Run.{Run}
 use Rattle.outline.specs.declared.Outlined.{Outlined}
 use Rattle.outline.specs.declared.Outlined.the-variants.{Bytes}
 use Rattle.outline.specs.Promises.{Outlines, outlinedTold, textAfter}

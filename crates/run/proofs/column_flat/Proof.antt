@@ -4,7 +4,7 @@ use mathlib.Core.Path.{refl, sym, _∙_}
 use lib.ListN.{length}
 use denote.Ref.{now}
 use borrow.Author.Needs.{needs}
-use Rattle.run.proofs.Checks.{column-passed}
+use Rattle.running.proofs.Checks.{column-passed}
 use Rattle.run.proofs.Columns.{column-refused}
 use Rattle.run.proofs.column_flat.Statement.{statement}
 use Rattle.run.proofs.column_flat.Tie as tie

@@ -2,7 +2,7 @@
 -- between 5 and the count; `Columns` puts the calls' promises together. Assumes nothing.
 use denote.Ref.{now}
 use borrow.Author.Needs.{needs}
-use Rattle.run.proofs.Checks.{sum-fits}
+use Rattle.running.proofs.Checks.{sum-fits}
 use Rattle.run.proofs.Columns.{column-copying, column-loading, column-surveying, column-few, columns-fit}
 use Rattle.run.proofs.Columns.{column-made}
 use Rattle.run.proofs.column_good.Statement.{statement}

@@ -30,19 +30,19 @@ use Rattle.table.specs.Inner.{countIn, cellsRead}
 use Rattle.table.proofs.NumberCalls.{CellsOf, CountOf, cells-known, count-known, calls-cells, calls-count}
 use Rattle.table.proofs.cells_of.Symbol.{name as #table·cells-of}
 use Rattle.table.proofs.count_of.Symbol.{name as #table·count-of}
-use Rattle.run.specs.declared.Run.{Run}
+use Rattle.running.specs.declared.Run.{Run}
 use Rattle.run.specs.declared.Step.{Step}
-use Rattle.run.specs.Promises.{heldOf}
+use Rattle.running.specs.Running.{heldOf}
 use Rattle.run.proofs.end.Proof.CallsFlat.{FlatCall, flat-known, Left, calls-flat}
 use Rattle.run.proofs.Rows.{end-fillable, end-filled}
 use Rattle.run.proofs.Values.{run-by-value, runVal, stepVal, step-is, run-is, handed-is, run-typed, step-typed}
 use Rattle.run.proofs.Values.{handed-typed}
-use Rattle.run.proofs.HeldCall.{HeldCells, held-known, calls-held}
-use Rattle.run.proofs.Run as N
+use Rattle.running.proofs.HeldCall.{HeldCells, held-known, calls-held}
+use Rattle.running.proofs.Run as N
 use Rattle.run.proofs.Step as U
 use Rattle.run.proofs.Step.Laws as U′
 use Rattle.run.proofs.end_flat.Symbol.{name as #run·end-flat}
-use Rattle.run.proofs.records.held_cells.Symbol.{name as #run·held-cells}
+use Rattle.running.proofs.records.held_cells.Symbol.{name as #running·held-cells}
 use Rattle.run.proofs.end.Key.{name as #run·end}
 use Rattle.run.proofs.end as ends
 use Rattle.run.proofs.end.Statement as stated
@@ -122,7 +122,7 @@ module _ {M : Type 1} (𝓤 : URA M) (H : Heap 𝓤) (A : Atoms 𝓤) (W : Given
 
   module _ (C : Calls 𝓤 H) (Λ : Loops 𝓤 H) (fm : FmC 𝓤 H (W .laws) C)
       (known-flat : Triple 𝓤 (C #run·end-flat) (FlatCall 𝓤 H A mem run))
-      (known-held : Triple 𝓤 (C #run·held-cells) (HeldCells 𝓤 H A mem run))
+      (known-held : Triple 𝓤 (C #running·held-cells) (HeldCells 𝓤 H A mem run))
       (known-cells : Triple 𝓤 (C #table·cells-of) (CellsOf 𝓤 H A mem run))
       (known-count : Triple 𝓤 (C #table·count-of) (CountOf 𝓤 H A mem run))
       (known-fill : Triple 𝓤 (C #table·fill) (Fill 𝓤 H A mem run)) where
@@ -208,7 +208,7 @@ end-spec 𝓤 H 𝓜 𝓖 𝓡 =
     (qs .1 .1 .0) (a .0) (a .1 .0) (a .1 .1 .0 .ptr .0) (a .1 .1 .0 .ptr .1) (a .1 .1 .0 .name) (a .1 .1 .0 .now)
     (a .1 .1 .1 .0) (are .0) (are .1 .0 .0 .1) (are .1 .1 .0 .0 .1) (are .1 .1 .1 .0 .0 .1) _ _ fm
     (flat-known 𝓤 H 𝓜 𝓖 𝓡 code.env code.calls-run·end-flat)
-    (held-known 𝓤 H 𝓜 𝓖 𝓡 code.env code.calls-run·records·held-cells)
+    (held-known 𝓤 H 𝓜 𝓖 𝓡 code.env code.calls-running·records·held-cells)
     (cells-known 𝓤 H 𝓜 𝓖 𝓡 code.env code.calls-table·cells-of)
     (count-known 𝓤 H 𝓜 𝓖 𝓡 code.env code.calls-table·count-of)
     (fill-known 𝓤 H 𝓜 𝓖 𝓡 code.env code.calls-table·fill)))

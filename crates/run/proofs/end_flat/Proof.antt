@@ -4,7 +4,7 @@ use mathlib.Core.List.{[]}
 use lib.ListN.{length}
 use denote.Ref.{now}
 use borrow.Author.Needs.{needs}
-use Rattle.run.proofs.Checks.{end-passed}
+use Rattle.running.proofs.Checks.{end-passed}
 use Rattle.run.proofs.Columns.{end-refused}
 use Rattle.run.proofs.end_flat.Statement.{statement}
 use Rattle.run.proofs.end_flat.Tie as tie

@@ -7,9 +7,10 @@ use borrow.Author.Needs.{needs}
 use Rattle.record.specs.declared.Refusal.the-variants.{Rows}
 use Rattle.record.specs.declared.Checked.the-variants.{Good, Bad}
 use Rattle.record.specs.Refusals.{Told, firstOf, checkedTold, badRows}
-use Rattle.run.specs.declared.Run.{Run}
+use Rattle.running.specs.declared.Run.{Run}
 use Rattle.run.specs.declared.Started.the-variants as started
-use Rattle.run.specs.Promises.{startedRun, startedTold, Starts}
+use Rattle.running.specs.Running.{startedRun}
+use Rattle.run.specs.Promises.{startedTold, Starts}
 use Rattle.run.proofs.start.Statement.{statement}
 use Rattle.run.proofs.start.Tie as tie
 

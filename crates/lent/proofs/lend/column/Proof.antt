@@ -16,11 +16,11 @@ use Rattle.table.proofs.Logic.{pass1, pass0, free0, addr, FmC, u8, usize, i32, 
 use Rattle.table.proofs.Logic.{ShrSlice, MutSlice, Room, finally, nothing, owned, lasts, Lasts, atExit, onEntry}
 use Rattle.table.proofs.Logic.{tripleOf, Triple, Stays, walkOf, ends-at, needs, tablesOf}
 use Rattle.record.specs.declared.Peak.{Peak}
-use Rattle.run.specs.declared.Run.{Run}
+use Rattle.running.specs.declared.Run.{Run}
 use Rattle.run.specs.declared.Step.{Step}
 use Rattle.run.proofs.Values.{run-by-value, runVal}
-use Rattle.run.proofs.Run as N
-use Rattle.run.proofs.Run.Laws as N′
+use Rattle.running.proofs.Run as N
+use Rattle.running.proofs.Run.Laws as N′
 use Rattle.run.proofs.Step as S
 use Rattle.run.proofs.Step.Laws as S′
 use Rattle.table.proofs.Parameters.{Parameter, Spent, mutable, none, number, shared, spends, stays}

@@ -16,11 +16,11 @@ use Rattle.table.proofs.Logic.{FmC, u8, usize, i32, Is, owns, RefT, plain, slic
 use Rattle.table.proofs.Logic.{nothing, owned, lasts, atExit, onEntry, tripleOf, Triple, Stays, walkOf, ends-at, needs}
 use Rattle.table.proofs.Logic.{tablesOf}
 use Rattle.record.specs.declared.Peak.{Peak}
-use Rattle.run.specs.declared.Run.{Run}
+use Rattle.running.specs.declared.Run.{Run}
 use Rattle.run.specs.declared.Step.{Step}
 use Rattle.run.proofs.Values.{run-by-value, runVal}
-use Rattle.run.proofs.Run as N
-use Rattle.run.proofs.Run.Laws as N′
+use Rattle.running.proofs.Run as N
+use Rattle.running.proofs.Run.Laws as N′
 use Rattle.run.proofs.Step as S
 use Rattle.run.proofs.Step.Laws as S′
 use Rattle.table.proofs.Walks.{Promise, closes, knows}

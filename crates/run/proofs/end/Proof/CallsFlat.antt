@@ -22,11 +22,11 @@ use Rattle.table.proofs.Logic.{Is, shows, uint-makes, RefT, sliceVal, ShrSlice,
 use Rattle.table.proofs.Logic.{nothing, owned, heard, facts, calls-at, lasts, ensured, Lasts, tripleOf, Triple, says}
 use Rattle.table.proofs.Walks.{Known, Promise, knows}
 use Rattle.table.proofs.LentAgain.{LentMut, lends-again, comes-back}
-use Rattle.run.specs.declared.Run.{Run}
+use Rattle.running.specs.declared.Run.{Run}
 use Rattle.run.specs.declared.Step.{Step}
 use Rattle.run.specs.Inner.{EndsFlat}
-use Rattle.run.proofs.Run as N
-use Rattle.run.proofs.Run.Laws as N′
+use Rattle.running.proofs.Run as N
+use Rattle.running.proofs.Run.Laws as N′
 use Rattle.run.proofs.Step as U
 use Rattle.run.proofs.Values.{runVal}
 use Rattle.run.proofs.end_flat as flat

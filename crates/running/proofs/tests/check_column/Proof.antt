@@ -1,8 +1,8 @@
 -- `check_column`: the tests, one after the other, are those of the paper (`column-made`). Assumes nothing.
 use borrow.Author.Needs.{needs}
-use Rattle.run.proofs.Checks.{sum-fits, column-made}
-use Rattle.run.proofs.tests.check_column.Statement.{statement}
-use Rattle.run.proofs.tests.check_column.Tie as tie
+use Rattle.running.proofs.Checks.{sum-fits, column-made}
+use Rattle.running.proofs.tests.check_column.Statement.{statement}
+use Rattle.running.proofs.tests.check_column.Tie as tie
 
 add-n : tie.Need-add-n
 add-n c =

@@ -15,20 +15,20 @@ use Rattle.table.proofs.Logic.{fjoin, frame, done, Item, join, raw, runs, Seq, 
 use Rattle.table.proofs.Logic.{owned, lasts, ensured, tripleOf, Triple}
 use Rattle.table.proofs.Walks.{Known, Promise, knows}
 use Rattle.table.proofs.Locals.{calls-number}
-use Rattle.run.specs.declared.Run.{Run}
-use Rattle.run.specs.Promises.{heldOf}
-use Rattle.run.proofs.Run as N
-use Rattle.run.proofs.Run.Laws as N′
-use Rattle.run.proofs.records.held_cells as held-cells
-use Rattle.run.proofs.records.held_cells.Symbol as held-cells-def
-use Rattle.run.proofs.records.held_cells.Symbol.{name as #run·held-cells}
-use Rattle.run.proofs.records.held_cells.Met as held-cells-thm
+use Rattle.running.specs.declared.Run.{Run}
+use Rattle.running.specs.Running.{heldOf}
+use Rattle.running.proofs.Run as N
+use Rattle.running.proofs.Run.Laws as N′
+use Rattle.running.proofs.records.held_cells as held-cells
+use Rattle.running.proofs.records.held_cells.Symbol as held-cells-def
+use Rattle.running.proofs.records.held_cells.Symbol.{name as #running·held-cells}
+use Rattle.running.proofs.records.held_cells.Met as held-cells-thm
 
 abbrev pub HeldCells : {M : Type 1} → Promise M
 HeldCells 𝓤 H A mem run = tripleOf 𝓤 H A held-cells.signature (held-cells.spec 𝓤 H A mem run)
 
-pub held-known : {M : Type 1} → Known M HeldCells #run·held-cells held-cells-def.routine
-held-known = knows HeldCells #run·held-cells held-cells-def.routine held-cells-thm.met
+pub held-known : {M : Type 1} → Known M HeldCells #running·held-cells held-cells-def.routine
+held-known = knows HeldCells #running·held-cells held-cells-def.routine held-cells-thm.met
 
 module _ {M : Type 1} (𝓤 : URA M) (H : Heap 𝓤) (A : Atoms 𝓤) (W : Given 𝓤 H A) (mem : Memory → SProp 𝓤)
     (run : Routine → Fun 𝓤) (ru : Run) (u : Val) (is : Is N.the-row ru (u ∷ [])) where
@@ -49,10 +49,10 @@ module _ {M : Type 1} (𝓤 : URA M) (H : Heap 𝓤) (A : Atoms 𝓤) (W : Given
 
   module _ {K : Type 0} {Γ : List (Item 𝓤)} {E : Env 𝓤 H} {C : Calls 𝓤 H} {Λ : Loops 𝓤 H} {p : Post 𝓤 H}
       {xs : List Operand} {d : Place} {rest : Body} where
-    pub calls-held : K → FmC 𝓤 H (W .laws) C → Triple 𝓤 (C #run·held-cells) (HeldCells 𝓤 H A mem run)
+    pub calls-held : K → FmC 𝓤 H (W .laws) C → Triple 𝓤 (C #running·held-cells) (HeldCells 𝓤 H A mem run)
         → Opds K W (raw (HeldCells 𝓤 H A mem run .pre to-held) ∷ Γ) E xs (u ∷ [])
         → (heldOf ru < 2 ^ 64 → Seq K W Γ (lands C Λ E d (vint w64 (heldOf ru)) rest p))
-        → Seq K W Γ (runs C Λ E (seq (call #run·held-cells xs d) rest) p)
+        → Seq K W Γ (runs C Λ E (seq (call #running·held-cells xs d) rest) p)
     calls-held t fm known os after =
         calls-number t fm (HeldCells 𝓤 H A mem run) known to-held (heldOf ru)
         (ensured 𝓤 H A held-cells.ended (held-cells.clauses 𝓤 H A mem run) tt (ru, tt) tt)

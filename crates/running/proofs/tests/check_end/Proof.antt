@@ -1,8 +1,8 @@
 -- `check_end`: the tests, one after the other, are those of the paper (`end-made`). Assumes nothing.
 use borrow.Author.Needs.{needs}
-use Rattle.run.proofs.Checks.{end-made}
-use Rattle.run.proofs.tests.check_end.Statement.{statement}
-use Rattle.run.proofs.tests.check_end.Tie as tie
+use Rattle.running.proofs.Checks.{end-made}
+use Rattle.running.proofs.tests.check_end.Statement.{statement}
+use Rattle.running.proofs.tests.check_end.Tie as tie
 
 returns : tie.Need-returns
 returns c =

@@ -18,9 +18,9 @@ use Rattle.record.specs.Refusals.{firstOf, badRows}
 use Rattle.record.specs.Inner.{thenTest}
 use Rattle.record.proofs.Refusals.{rows-known}
 use Rattle.record.proofs.Tests.{Makes, make, then, first-passed}
-use Rattle.run.specs.declared.Run.{Run}
-use Rattle.run.specs.Promises.{heldOf, badRecord, runTests, columnTests, endTests}
-use Rattle.run.specs.Inner.{GoodColumn, GoodEnd}
+use Rattle.running.specs.declared.Run.{Run}
+use Rattle.running.specs.Running.{heldOf, badRecord, runTests, columnTests, endTests}
+use Rattle.running.specs.Inner.{GoodColumn, GoodEnd}
 
 -- ---- numbers of 64 bits
 

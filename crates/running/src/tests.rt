@@ -2,7 +2,7 @@
 // paper's order.
 ghost use mathlib.Core.Path.{_≡_};
 ghost use Rattle.record.specs.Refusals.{firstOf};
-ghost use Rattle.run.specs.Promises.{badRecord, runTests, columnTests, endTests};
+ghost use Rattle.running.specs.Running.{badRecord, runTests, columnTests, endTests};
 use crate::Run;
 use crate::records::held_cells;
 use record::Cell;

@@ -1,8 +1,8 @@
 -- `check_run`: the two tests, one after the other (`run-made`). Assumes nothing.
 use borrow.Author.Needs.{needs}
-use Rattle.run.proofs.Checks.{run-made}
-use Rattle.run.proofs.tests.check_run.Statement.{statement}
-use Rattle.run.proofs.tests.check_run.Tie as tie
+use Rattle.running.proofs.Checks.{run-made}
+use Rattle.running.proofs.tests.check_run.Statement.{statement}
+use Rattle.running.proofs.tests.check_run.Tie as tie
 
 returns : tie.Need-returns
 returns c =

@@ -2,9 +2,9 @@
 use mathlib.Core.Path.{sym, _∙_, ap}
 use borrow.Author.Needs.{needs}
 use Rattle.record.specs.declared.Handed.{Handed}
-use Rattle.run.specs.Promises.{endRun}
-use Rattle.run.proofs.records.after_end.Statement.{statement}
-use Rattle.run.proofs.records.after_end.Tie as tie
+use Rattle.running.specs.Running.{endRun}
+use Rattle.running.proofs.records.after_end.Statement.{statement}
+use Rattle.running.proofs.records.after_end.Tie as tie
 
 returns : tie.Need-returns
 returns c =

@@ -1,7 +1,7 @@
 // The run record: what is read from it, and what becomes of it. No other file makes one.
 ghost use mathlib.Core.Path.{_≡_};
 ghost use Prim.Native.Nat.{_+_, _<_};
-ghost use Rattle.run.specs.Promises.{heldOf, growingRun, withColumn, withEnd, columnRun, endRun};
+ghost use Rattle.running.specs.Running.{heldOf, growingRun, withColumn, withEnd, columnRun, endRun};
 use crate::Run;
 use record::Handed;
 

@@ -5,10 +5,10 @@ use Prim.Native.Nat.{ℕ, _≤_, _<_}
 use lib.Dec.{ltb}
 use borrow.Author.Needs.{needs}
 use borrow.Author.Tests.{lt-ltb, le-ltb}
-use Rattle.run.specs.declared.Run.{Run}
-use Rattle.run.specs.Promises.{heldOf, badRecord}
-use Rattle.run.proofs.tests.bad_record.Statement.{statement}
-use Rattle.run.proofs.tests.bad_record.Tie as tie
+use Rattle.running.specs.declared.Run.{Run}
+use Rattle.running.specs.Running.{heldOf, badRecord}
+use Rattle.running.proofs.tests.bad_record.Statement.{statement}
+use Rattle.running.proofs.tests.bad_record.Tie as tie
 
 -- h cells are held
 module _ (run : Run) (grid : ℕ) {h : ℕ} (e : h ≡ heldOf run) where
