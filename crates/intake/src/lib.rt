@@ -35,7 +35,7 @@ pub fn take(file: &[u8], heights: &mut [i32]) -> ReadBack {
     if is_large(file) {
         return ReadBack::Refused(Refusal::Cells);
     }
-    layout::take_grid(file, heights, MOST_CELLS)
+    reader::take_grid(file, heights, MOST_CELLS)
 }
 
 // Puts the line of a refusal into the front of a text, and answers the number of its bytes; a text that has no room for

@@ -1,32 +1,21 @@
 -- Records laid one behind the other, from a place in bytes on.
---     take-grows                           the front of a row is a row that grows by an item at a time
---     Lays s at row n t i                  the invariant of a loop that lays them: t is s with the first i
+--     Lays s at row n t i    the invariant of a loop that lays them: t is s with the first i
 --     lays-start, lays-length, lays-step, lays-done, lays-front    its laws
---     laid-start, laid-length, laid-step   the same for a room with records behind so many cells
 -- A turn lays 16 bytes behind those laid before it (`over-over`). Assumes nothing.
-use mathlib.Core.Path.{_≡_, refl, sym, _∙_, ap}
+use mathlib.Core.Path.{_≡_, sym, _∙_, ap}
 use mathlib.Core.List.{List, [], _∷_, _++_, append-nil, flatMap}
 use Prim.Native.Nat.{ℕ, suc, _+_, _*_, _≤_, _<_}
 use native.Mathlib.Decide.{decLt}
 use native.Mathlib.Numerals.{add-one}
 use native.Mathlib.Omega.{arith}
-use lib.ListN.{length, take, drop}
-use lib.Seq.{take-suc}
-use Rattle.relief.specs.Heights.{BLANK}
+use lib.ListN.{length, drop}
 use Rattle.record.specs.declared.Peak.{Peak}
-use Rattle.record.specs.Records.{withoutKey}
-use Rattle.sound.specs.Sound.{ithOf}
-use Rattle.layout.specs.Layout.{bytesOf, fieldsOf, allFieldsOf, totalOf}
+use Rattle.layout.specs.Layout.{bytesOf, fieldsOf, allFieldsOf}
 use Rattle.words.specs.Words.{over}
-use Rattle.layout.specs.Inner.{Puttable, laid}
 use Rattle.words.proofs.Over.{over-front, over-length, over-over}
 use Rattle.layout.proofs.Over.{over-nil}
 use Rattle.layout.proofs.Rows.{four-length, four-append, record-four, bytes-length, bytes-append}
 use Rattle.table.proofs.Grows.{Grows, grows-length}
-
-pub take-grows : (ps : List Peak) (n : ℕ) → n ≤ length ps → Grows (λ i. take i ps) (ithOf ps) n
-unfolding ithOf
-take-grows ps n h = record { start = refl; next = λ i l. take-suc ps i (withoutKey 0 BLANK) (omega arith) }
 
 -- ---- the bytes of a row
 
@@ -98,22 +87,3 @@ pub lays-front : {row : ℕ → List Peak} {peak : ℕ → Peak} {n : ℕ} → G
 lays-front {row} {n = n} g {s} h l =
     lays-done g h l ∙ over-front s (bytesOf (allFieldsOf (row n)))
     ∙ ap (λ (k : ℕ). bytesOf (allFieldsOf (row n)) ++ drop k s) (row-bytes g n (omega arith))
-
--- ---- records behind so many cells
-
-pub laid-start : (s : List ℕ) (cells : ℕ) (ps : List Peak) → laid s cells ps 0 ≡ s
-unfolding laid flatMap
-laid-start s cells ps = sym (over-nil s (24 + 4 * cells))
-
-module _ {s : List ℕ} {cells : ℕ} {ps : List Peak} {n : ℕ} (can : Puttable s cells ps n) (i : ℕ) where
-  lays : i ≤ n → Lays s (24 + 4 * cells) (λ j. take j ps) n (laid s cells ps i) i
-  unfolding laid
-  lays l = record { below = l; bytes = refl }
-
-  pub laid-length : i ≤ n → length (laid s cells ps i) ≡ length s
-  laid-length l = lays-length (take-grows ps n (can .records)) (lays l) (can .long)
-
-  pub laid-step : i < n
-      → over (laid s cells ps i) (totalOf cells i) (bytesOf (fieldsOf (ithOf ps i))) ≡ laid s cells ps (i + 1)
-  unfolding laid
-  laid-step l = lays-step (take-grows ps n (can .records)) (lays (omega arith)) (can .long) l refl refl refl .bytes

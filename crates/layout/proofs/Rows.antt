@@ -1,5 +1,5 @@
--- Laws of rows: of bytes, of heights and of records, written and read. With `Files` the only file that unfolds
--- `fieldsOf`, `heightsFrom` and `peaksFrom`.
+-- Laws of rows: of bytes, of heights and of records, written and read. With `Files` the only file of this crate
+-- that unfolds `fieldsOf`, `heightsFrom` and `peaksFrom`, but for the proofs of the functions that put them.
 --     four-length, four-append, four-at        rows made of pieces of four
 --     bytes-length, bytes-append, bytes-at     the bytes of a row of numbers; bytes-word, a number of it
 --     record-four                              a record has four numbers

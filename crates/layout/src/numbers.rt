@@ -8,12 +8,14 @@ ghost use Rattle.words.specs.Words.{over};
 // What a level and the bits of its height differ by, modulo 2^32.
 const HALF: u32 = 2147483648;
 
+// The two's complement of a height.
 pub fn bits(height: i32) -> u32
     ensures { λ r. ⌜ r ≡ bitsOf height ⌝ }
 {
     std::num::wrapping_add_u32(record::level(height), HALF)
 }
 
+// The height with these bits.
 pub fn signed(bits: u32) -> i32
     ensures { λ r. ⌜ r ≡ signedOf bits ⌝ }
 {

@@ -1,5 +1,5 @@
 -- The claims hold: what is written is one (`write-unique` of `runfile`), and so is the answer to a file
--- (`answers-unique` of `layout`). Assumes nothing.
+-- (`answers-unique` of `reader`). Assumes nothing.
 use mathlib.Core.List.{_++_}
 use mathlib.Core.Path.{_≡_, sym, ap, _∙_}
 use lib.IntN.{ℤ}
@@ -8,7 +8,7 @@ use Rattle.layout.specs.declared.Written.{Written}
 use Rattle.layout.specs.declared.ReadBack.{ReadBack}
 use Rattle.layout.specs.Layout.{heightsIn, recordsFrom, cellsIn, peaksIn}
 use Rattle.layout.specs.Promises.{writtenTold, lentAfter, signedTold, bytesAfter}
-use Rattle.layout.proofs.ReadAnswer.{answers-unique}
+use Rattle.reader.proofs.ReadAnswer.{answers-unique}
 use Rattle.runfile.proofs.Claims as runfile
 use Rattle.meter_files.specs.Promises.{countTold}
 use Rattle.meter_files.specs.Claims.{MeterWriteUnique, MeterReadUnique, Claims}

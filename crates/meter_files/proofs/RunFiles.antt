@@ -1,4 +1,4 @@
--- The run file with its records as bytes: laws of `layout` for that row and that table.
+-- The run file with its records as bytes: laws of `reader` and `writer` for that row and that table.
 --     row-few          what is known of the index of the first unsound record of a lent row
 --     row-copyable     the room takes the records; at a refusal none is put
 --     row-written      the room with them keeps the promise
@@ -23,13 +23,14 @@ use Rattle.layout.specs.declared.ReadBack.the-variants.{Run, Refused}
 use Rattle.layout.specs.Layout.{bytesOf, fieldsOf, allFieldsOf, peaksFrom, recordsFrom, cellsIn, peaksIn}
 use Rattle.layout.specs.Promises.{ReadAnswers, signedTold, bytesAfter}
 use Rattle.words.specs.Words.{over}
-use Rattle.layout.specs.Inner.{Few, GridPut, laid, putOf, cellsToTake, recordsToTake}
+use Rattle.reader.specs.Inner.{cellsToTake, recordsToTake}
+use Rattle.writer.specs.Inner.{Few, GridPut, laid, putOf}
 use Rattle.words.proofs.Over.{over-front}
 use Rattle.layout.proofs.Over.{over-nil}
-use Rattle.layout.proofs.ReadAnswer.{read-readable, read-same}
 use Rattle.layout.proofs.HandedBytes.{refused-bytes}
-use Rattle.layout.proofs.Room.{grid-puttable, grid-written}
 use Rattle.layout.proofs.Rows.{peaks-length, bytes-length, four-length, record-four}
+use Rattle.reader.proofs.ReadAnswer.{read-readable, read-same}
+use Rattle.writer.proofs.Room.{grid-puttable, grid-written}
 use Rattle.runfile.specs.Promises.{Writes}
 use Rattle.meter_files.specs.Promises.{lentRow, countTold}
 use Rattle.meter_files.specs.Inner.{Copyable}

@@ -74,8 +74,8 @@ pub extern "C" fn meter_write(rows: u32, heights: &[i32], records: &[u8], room: 
 {
     let n = records.len() / 16;
     let unsound = first_unsound(heights, records);
-    let written = layout::put_grid(rows, heights, n, unsound, room);
-    let count = layout::records_to_put(written, n);
+    let written = writer::put_grid(rows, heights, n, unsound, room);
+    let count = writer::records_to_put(written, n);
     copy_records(room, 6 + heights.len(), records, 0, count);
     written_number(written)
 }
@@ -87,9 +87,9 @@ pub extern "C" fn meter_read(file: &[u8], heights: &mut [i32], table: &mut [u8])
     ensures { λ r. ⌜ MeterReads (now (file .entry)) (now (heights .entry)) (now (heights .exit)) (now (table .entry))
         (now (table .exit)) r ⌝ }
 {
-    let back = layout::take_grid(file, heights, table.len() / 16);
-    let cells = layout::cells_to_take(back);
-    let count = layout::records_to_take(back);
+    let back = reader::take_grid(file, heights, table.len() / 16);
+    let cells = reader::cells_to_take(back);
+    let count = reader::records_to_take(back);
     copy_records(table, 0, file, 6 + cells, count);
     read_number(back)
 }

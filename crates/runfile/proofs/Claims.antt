@@ -25,13 +25,14 @@ use Rattle.layout.specs.declared.ReadBack.the-variants.{Run}
 use Rattle.layout.specs.Layout.{totalOf, fileOf, rowsIn, columnsIn, peaksIn, cellsIn, heightsIn, recordsFrom}
 use Rattle.sound.specs.Sound.{FirstUnsound, GridOf, SoundRow}
 use Rattle.layout.specs.Promises.{writeTests, roomAfter, lentAfter}
-use Rattle.layout.specs.Inner.{cellsToTake, recordsToTake}
 use Rattle.layout.proofs.Files.{file-length, file-rows, file-columns, file-peaks, file-offset, file-offset-2}
-use Rattle.layout.proofs.Files.{file-total, back-cells, back-heights, back-records, read-file}
-use Rattle.layout.proofs.ReadAnswer.{Readable, readable-good, read-readable, read-same, read-differ, answers-unique}
+use Rattle.layout.proofs.Files.{file-total, back-cells, back-heights, back-records}
 use Rattle.layout.proofs.Rows.{heights-length, peaks-length}
+use Rattle.reader.specs.Inner.{cellsToTake, recordsToTake}
+use Rattle.reader.proofs.ReadAnswer.{Readable, readable-good, read-readable, read-same, read-differ, answers-unique}
+use Rattle.reader.proofs.ReadFile.{read-file}
 use Rattle.sound.proofs.Scans.{first-unique, first-all, first-few}
-use Rattle.layout.proofs.WriteAnswer.{Gridded, written-bytes, written-differ}
+use Rattle.writer.proofs.WriteAnswer.{Gridded, written-bytes, written-differ}
 use Rattle.runfile.specs.Promises.{Writes, Reads}
 use Rattle.runfile.specs.Claims.{WriteUnique, ReadUnique, SameRun, ReadsBackWrites, ListsReadBack}
 use Rattle.runfile.specs.Claims.{WritesBackReads, Claims}

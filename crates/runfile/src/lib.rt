@@ -1,7 +1,8 @@
 // Writing and reading the run file, with the records in a lent row.
 ghost use mathlib.Core.Path.{_≡_};
 ghost use Rattle.sound.specs.Sound.{FirstUnsound};
-ghost use Rattle.layout.specs.Inner.{Takable, Puttable, laid, filledFrom};
+ghost use Rattle.reader.specs.Inner.{Takable, filledFrom};
+ghost use Rattle.writer.specs.Inner.{Puttable, laid};
 ghost use Rattle.runfile.specs.Promises.{Writes, Reads};
 use layout::ReadBack;
 use layout::Written;
@@ -56,8 +57,8 @@ pub fn write(rows: u32, heights: &[i32], records: &[Peak], room: &mut [u8]) -> W
 {
     let n = records.len();
     let unsound = first_unsound(heights, records);
-    let answer = layout::put_grid(rows, heights, n, unsound, room);
-    let count = layout::records_to_put(answer, n);
+    let answer = writer::put_grid(rows, heights, n, unsound, room);
+    let count = writer::records_to_put(answer, n);
     put_records(room, heights.len(), records, count);
     answer
 }
@@ -67,9 +68,9 @@ pub fn read(file: &[u8], heights: &mut [i32], table: &mut [Peak]) -> ReadBack
     ensures { λ r. ⌜ Reads (now (file .entry)) (now (heights .entry)) (now (heights .exit)) (now (table .entry))
         (now (table .exit)) r ⌝ }
 {
-    let answer = layout::take_grid(file, heights, table.len());
-    let cells = layout::cells_to_take(answer);
-    let count = layout::records_to_take(answer);
+    let answer = reader::take_grid(file, heights, table.len());
+    let cells = reader::cells_to_take(answer);
+    let count = reader::records_to_take(answer);
     take_records(table, file, cells, count);
     answer
 }

@@ -9,9 +9,9 @@ use contract.Running.{givenOf, tables, tablesOf}
 use denote.Signature.{plain}
 use denote.Triple.Walked.{needs}
 use denote.Builtin.{unit}
-use Rattle.layout.specs.Inner.{Puttable}
 use Rattle.layout.proofs.records.put_record.Symbol as put-one-def
 use Rattle.layout.proofs.records.put_record.Met as put-one-thm
+use Rattle.writer.specs.Inner.{Puttable}
 use Rattle.runfile.proofs.put_records.Proof.PutCall.{PutOne}
 use Rattle.runfile.proofs.put_records.Proof.End.{parameters}
 use Rattle.runfile.proofs.put_records.Proof.Walk.{walk}

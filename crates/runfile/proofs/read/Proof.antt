@@ -31,12 +31,12 @@ use Rattle.table.proofs.Parameters.{Parameter, mutable, none, shared, stays}
 use Rattle.table.proofs.Locals.{localAt, copied}
 use Rattle.table.proofs.Frame.{allocated, releases}
 use Rattle.layout.specs.declared.ReadBack.{ReadBack}
-use Rattle.layout.specs.Inner.{cellsToTake, recordsToTake}
 use Rattle.layout.proofs.ReadBack as S
 use Rattle.layout.proofs.ReadBack.Laws as S′
-use Rattle.layout.proofs.reader.take_grid.Symbol.{name as #layout·take-grid}
-use Rattle.layout.proofs.reader.cells_to_take.Symbol.{name as #layout·cells-to-take}
-use Rattle.layout.proofs.reader.records_to_take.Symbol.{name as #layout·records-to-take}
+use Rattle.reader.specs.Inner.{cellsToTake, recordsToTake}
+use Rattle.reader.proofs.take_grid.Symbol.{name as #reader·take-grid}
+use Rattle.reader.proofs.cells_to_take.Symbol.{name as #reader·cells-to-take}
+use Rattle.reader.proofs.records_to_take.Symbol.{name as #reader·records-to-take}
 use Rattle.runfile.proofs.take_records.Symbol.{name as #runfile·take-records}
 use Rattle.runfile.proofs.Slices.{valueOf, OwnShr}
 use Rattle.runfile.proofs.read.Proof.Numbers.{
@@ -111,9 +111,9 @@ module _ {M : Type 1} (𝓤 : URA M) (H : Heap 𝓤) (A : Atoms 𝓤) (W : Given
       owned ! S.the-row (Is S.the-row) (EL.makes S.the-type S′.the-plain 𝓤 H A) r _ is $ move ! (1 ∷ 0 ∷ []) $ done !
 
   module _ (C : Calls 𝓤 H) (Λ : Loops 𝓤 H) (fm : FmC 𝓤 H (W .laws) C)
-      (known-grid : Triple 𝓤 (C #layout·take-grid) (TakeGrid 𝓤 H A mem run))
-      (known-cells : Triple 𝓤 (C #layout·cells-to-take) (CellsToTake 𝓤 H A mem run))
-      (known-count : Triple 𝓤 (C #layout·records-to-take) (RecordsToTake 𝓤 H A mem run))
+      (known-grid : Triple 𝓤 (C #reader·take-grid) (TakeGrid 𝓤 H A mem run))
+      (known-cells : Triple 𝓤 (C #reader·cells-to-take) (CellsToTake 𝓤 H A mem run))
+      (known-count : Triple 𝓤 (C #reader·records-to-take) (RecordsToTake 𝓤 H A mem run))
       (known-take : Triple 𝓤 (C #runfile·take-records) (TakeRecords 𝓤 H A mem run)) where
     walk : ent 𝓤 (onEntry 𝓤 H A read.signature (κ₀, (κ₁, (κ₂, tt))) (q₀, (q₁, (q₂, tt))) a vals)
         (WpFn 𝓤 H C Λ code.function (valueOf f ∷ valueOf h ∷ valueOf t ∷ []) Post)
@@ -182,7 +182,7 @@ read-spec 𝓤 H 𝓜 𝓖 𝓡 =
     (λ fm κs qs a g are. via 𝓤 _ (fst∗ 𝓤 _ (emp 𝓤))
     (walk 𝓤 H (𝓖 .A) (givenOf 𝓤 H 𝓜 𝓖) (𝓜 .mem) (𝓡 .run) (κs .0) (κs .1 .0) (κs .1 .1 .0) (qs .0) (qs .1 .0)
     (qs .1 .1 .0) (a .0) (a .1 .0) (a .1 .1 .0) (are .0 .0 .1) (are .1 .0 .0 .1) (are .1 .1 .0 .0 .1) _ _ fm
-    (grid-known 𝓤 H 𝓜 𝓖 𝓡 code.env code.calls-layout·take-grid)
-    (cells-known 𝓤 H 𝓜 𝓖 𝓡 code.env code.calls-layout·cells-to-take)
-    (records-known 𝓤 H 𝓜 𝓖 𝓡 code.env code.calls-layout·records-to-take)
+    (grid-known 𝓤 H 𝓜 𝓖 𝓡 code.env code.calls-reader·take-grid)
+    (cells-known 𝓤 H 𝓜 𝓖 𝓡 code.env code.calls-reader·cells-to-take)
+    (records-known 𝓤 H 𝓜 𝓖 𝓡 code.env code.calls-reader·records-to-take)
     (take-known 𝓤 H 𝓜 𝓖 𝓡 code.env code.calls-runfile·take-records)))

@@ -4,10 +4,10 @@ use Prim.Native.Nat.{_+_, _≤_}
 use native.Mathlib.Omega.{arith}
 use lib.ListN.{length}
 use Rattle.layout.specs.Layout.{recordFrom, recordsFrom, totalOf}
-use Rattle.layout.specs.Inner.{Takable}
 use Rattle.layout.proofs.Rows.{peaks-grow}
 use Rattle.layout.proofs.records.record_from.Symbol as record-from-def
 use Rattle.layout.proofs.records.record_from.Met as record-from-thm
+use Rattle.reader.specs.Inner.{Takable}
 use Rattle.runfile.proofs.take_records.Key.{name as #runfile·take-records}
 use Rattle.runfile.proofs.take_records.Statement as stated
 use Rattle.runfile.proofs.take_records.Code as code

@@ -33,13 +33,13 @@ use Rattle.table.proofs.Locals.{localAt, copied}
 use Rattle.table.proofs.Frame.{allocated, releases}
 use Rattle.layout.specs.declared.Written.{Written}
 use Rattle.sound.specs.Sound.{FirstUnsound}
-use Rattle.layout.specs.Inner.{putOf}
-use Rattle.layout.proofs.Room.{grid-puttable, grid-written}
+use Rattle.writer.specs.Inner.{putOf}
+use Rattle.writer.proofs.Room.{grid-puttable, grid-written}
 use Rattle.sound.proofs.Scans.{first-few}
 use Rattle.layout.proofs.Written as S
 use Rattle.layout.proofs.Written.Laws as S′
-use Rattle.layout.proofs.writer.put_grid.Symbol.{name as #layout·put-grid}
-use Rattle.layout.proofs.writer.records_to_put.Symbol.{name as #layout·records-to-put}
+use Rattle.writer.proofs.put_grid.Symbol.{name as #writer·put-grid}
+use Rattle.writer.proofs.records_to_put.Symbol.{name as #writer·records-to-put}
 use Rattle.runfile.proofs.first_unsound.Symbol.{name as #runfile·first-unsound}
 use Rattle.runfile.proofs.put_records.Symbol.{name as #runfile·put-records}
 use Rattle.runfile.proofs.Slices.{valueOf, sliceAt, OwnShr}
@@ -119,8 +119,8 @@ module _ {M : Type 1} (𝓤 : URA M) (H : Heap 𝓤) (A : Atoms 𝓤) (W : Given
 
   module _ (C : Calls 𝓤 H) (Λ : Loops 𝓤 H) (fm : FmC 𝓤 H (W .laws) C)
       (known-first : Triple 𝓤 (C #runfile·first-unsound) (First 𝓤 H A mem run))
-      (known-grid : Triple 𝓤 (C #layout·put-grid) (PutGrid 𝓤 H A mem run))
-      (known-count : Triple 𝓤 (C #layout·records-to-put) (RecordsToPut 𝓤 H A mem run))
+      (known-grid : Triple 𝓤 (C #writer·put-grid) (PutGrid 𝓤 H A mem run))
+      (known-count : Triple 𝓤 (C #writer·records-to-put) (RecordsToPut 𝓤 H A mem run))
       (known-put : Triple 𝓤 (C #runfile·put-records) (PutRecords 𝓤 H A mem run)) where
     walk : ent 𝓤 (onEntry 𝓤 H A write.signature (κ₀, (κ₁, (κ₂, tt))) (q₀, (q₁, (q₂, tt))) a vals)
         (WpFn 𝓤 H C Λ code.function (vint w32 rows ∷ valueOf h ∷ valueOf t ∷ wv ∷ []) Post)
@@ -198,6 +198,6 @@ write-spec 𝓤 H 𝓜 𝓖 𝓡 =
     (qs .1 .1 .0) (a .0) (a .1 .0) (a .1 .1 .0) (a .1 .1 .1 .0 .ptr .0) (a .1 .1 .1 .0 .ptr .1) (a .1 .1 .1 .0 .name)
     (a .1 .1 .1 .0 .now) (are .0 .1) (are .1 .0 .0 .1) (are .1 .1 .0 .0 .1) (are .1 .1 .1 .0 .0 .1) _ _ fm
     (first-known 𝓤 H 𝓜 𝓖 𝓡 code.env code.calls-runfile·first-unsound)
-    (grid-known 𝓤 H 𝓜 𝓖 𝓡 code.env code.calls-layout·put-grid)
-    (count-known 𝓤 H 𝓜 𝓖 𝓡 code.env code.calls-layout·records-to-put)
+    (grid-known 𝓤 H 𝓜 𝓖 𝓡 code.env code.calls-writer·put-grid)
+    (count-known 𝓤 H 𝓜 𝓖 𝓡 code.env code.calls-writer·records-to-put)
     (put-known 𝓤 H 𝓜 𝓖 𝓡 code.env code.calls-runfile·put-records)))

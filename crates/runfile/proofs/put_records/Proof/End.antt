@@ -18,7 +18,7 @@ use Rattle.table.proofs.Logic.{walkOf, ends-at}
 use Rattle.record.specs.declared.Peak.{Peak}
 use Rattle.record.proofs.Peak as T
 use Rattle.table.proofs.Parameters.{Parameter, mutable-kept, none, number, shared, stays}
-use Rattle.layout.specs.Inner.{laid}
+use Rattle.writer.specs.Inner.{laid}
 use Rattle.runfile.proofs.put_records as put
 use Rattle.runfile.proofs.put_records.Proof.PutCall.{roomRef, RoomAt}
 

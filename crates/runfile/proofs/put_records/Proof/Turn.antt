@@ -17,8 +17,8 @@ use Rattle.table.proofs.Upto.{Upto}
 use Rattle.layout.specs.Layout.{bytesOf, fieldsOf, totalOf}
 use Rattle.sound.specs.Sound.{ithOf}
 use Rattle.words.specs.Words.{over}
-use Rattle.layout.specs.Inner.{Puttable, laid}
-use Rattle.layout.proofs.Laid.{laid-length, laid-step}
+use Rattle.writer.specs.Inner.{Puttable, laid}
+use Rattle.writer.proofs.Room.{laid-length, laid-step}
 
 abbrev pub none : Peak
 none = withoutKey 0 BLANK

@@ -38,9 +38,9 @@ use Rattle.table.proofs.Locals.{localAt, copied}
 use Rattle.table.proofs.Frame.{allocated, releases}
 use Rattle.table.proofs.Upto.{Upto, Nearer, Nearer-wf}
 use Rattle.layout.specs.Layout.{totalOf}
-use Rattle.layout.specs.Inner.{Puttable, laid}
-use Rattle.layout.proofs.Laid.{laid-start}
 use Rattle.layout.proofs.records.put_record.Symbol.{name as #layout·put-record}
+use Rattle.writer.specs.Inner.{Puttable, laid}
+use Rattle.writer.proofs.Room.{laid-start}
 use Rattle.runfile.proofs.put_records as put
 use Rattle.runfile.proofs.put_records.Proof.End.{R, recordsVal, Recs, args, vals, Ended, exits}
 use Rattle.runfile.proofs.put_records.Proof.PutCall.{PutOne, RoomAt, calls-put}

@@ -14,8 +14,8 @@ use Rattle.layout.specs.declared.ReadBack.{ReadBack}
 use Rattle.layout.specs.declared.ReadBack.the-variants.{Run, Refused}
 use Rattle.layout.specs.Layout.{peaksIn, cellsIn, peaksFrom, recordsFrom}
 use Rattle.layout.specs.Promises.{ReadAnswers, lentAfter}
-use Rattle.layout.specs.Inner.{Takable, cellsToTake, recordsToTake, filledFrom}
-use Rattle.layout.proofs.ReadAnswer.{read-readable, read-same}
+use Rattle.reader.specs.Inner.{Takable, cellsToTake, recordsToTake, filledFrom}
+use Rattle.reader.proofs.ReadAnswer.{read-readable, read-same}
 
 module _ (f : List ℕ) (heights : ℕ) (ps : List Peak) where
   pub takable : (a : ReadBack) → ReadAnswers f heights (length ps) a → Takable ps f (cellsToTake a) (recordsToTake a)

@@ -19,20 +19,20 @@ use Rattle.table.proofs.Logic.{fsplit, some, runs, keep, pick, Seq, Post, lands
 use Rattle.table.proofs.Logic.{Is, uint-makes, RefT, finally, nothing, owned, heard, lasts, ensured, Lasts, tripleOf}
 use Rattle.table.proofs.Logic.{Triple, says}
 use Rattle.layout.specs.declared.ReadBack.{ReadBack}
-use Rattle.layout.specs.Inner.{GridTaken}
 use Rattle.layout.proofs.ReadBack as S
-use Rattle.layout.proofs.reader.take_grid as grid
-use Rattle.layout.proofs.reader.take_grid.Symbol as grid-def
-use Rattle.layout.proofs.reader.take_grid.Symbol.{name as #layout·take-grid}
-use Rattle.layout.proofs.reader.take_grid.Met as grid-thm
+use Rattle.reader.specs.Inner.{GridTaken}
+use Rattle.reader.proofs.take_grid as grid
+use Rattle.reader.proofs.take_grid.Symbol as grid-def
+use Rattle.reader.proofs.take_grid.Symbol.{name as #reader·take-grid}
+use Rattle.reader.proofs.take_grid.Met as grid-thm
 use Rattle.runfile.proofs.Slices.{valueOf, OwnShr, OwnMut, copies, Leaves, calls-leaves}
 use Rattle.table.proofs.Walks.{Known, Promise, knows}
 
 abbrev pub TakeGrid : {M : Type 1} → Promise M
 TakeGrid 𝓤 H A mem run = tripleOf 𝓤 H A grid.signature (grid.spec 𝓤 H A mem run)
 
-pub grid-known : {M : Type 1} → Known M TakeGrid #layout·take-grid grid-def.routine
-grid-known = knows TakeGrid #layout·take-grid grid-def.routine grid-thm.met
+pub grid-known : {M : Type 1} → Known M TakeGrid #reader·take-grid grid-def.routine
+grid-known = knows TakeGrid #reader·take-grid grid-def.routine grid-thm.met
 
 abbrev pub GridLeft : List ℕ → List ℤ → ℕ → ReadBack → List ℤ → Type 0
 GridLeft file heights room r zs = (length zs ≡ length heights) × GridTaken file heights zs room r
@@ -85,14 +85,14 @@ module _ {M : Type 1} (𝓤 : URA M) (H : Heap 𝓤) (A : Atoms 𝓤) (W : Given
 
   module _ {K : Type 0} {Γ : List (Item 𝓤)} {E : Env 𝓤 H} {C : Calls 𝓤 H} {Λ : Loops 𝓤 H} {p : Post 𝓤 H}
       {xs : List Operand} {d : Place} {rest : Body} where
-    pub calls-grid : K → FmC 𝓤 H (W .laws) C → Triple 𝓤 (C #layout·take-grid) (TakeGrid 𝓤 H A mem run) → room < 2 ^ 64
+    pub calls-grid : K → FmC 𝓤 H (W .laws) C → Triple 𝓤 (C #reader·take-grid) (TakeGrid 𝓤 H A mem run) → room < 2 ^ 64
         → (os : Opds K W (raw (TakeGrid 𝓤 H A mem run .pre to-grid) ∷ ‵ File ∷ Γ) E xs
         (valueOf f ∷ valueOf h ∷ vint w64 room ∷ []))
         → ((r : ReadBack) (v : Val) → Is S.the-row r (v ∷ []) → (zs : List ℤ) → Left r zs
         → Seq K W (‵ File ∷ ‵ (flft κ q) ∷ ‵ (finally i32 (h .name) zs) ∷ ‵ (flft κ′ q′) ∷ Γ)
         (lands C Λ E d v rest p))
         → Seq K W (‵ File ∷ ‵ (flft κ q) ∷ ‵ Hts ∷ ‵ (flft κ′ q′) ∷ Γ)
-        (runs C Λ E (seq (call #layout·take-grid xs d) rest) p)
+        (runs C Λ E (seq (call #reader·take-grid xs d) rest) p)
     calls-grid k fm known room-fits os after =
         copies k (named 0) κ u8 f $ move k (0 ∷ 2 ∷ 3 ∷ 4 ∷ 1 ∷ []) $
         calls-leaves k fm (TakeGrid 𝓤 H A mem run) known to-grid κ q File κ′ q′ Hts S.the-row Said

@@ -16,29 +16,29 @@ use Rattle.table.proofs.Logic.{owned, lasts, ensured, tripleOf, Triple}
 use Rattle.table.proofs.Walks.{Known, Promise, knows}
 use Rattle.table.proofs.Locals.{calls-number}
 use Rattle.layout.specs.declared.ReadBack.{ReadBack}
-use Rattle.layout.specs.Inner.{cellsToTake, recordsToTake}
 use Rattle.layout.proofs.ReadBack as S
 use Rattle.layout.proofs.ReadBack.Laws as S′
-use Rattle.layout.proofs.reader.cells_to_take as cells-of
-use Rattle.layout.proofs.reader.cells_to_take.Symbol as cells-of-def
-use Rattle.layout.proofs.reader.cells_to_take.Symbol.{name as #layout·cells-to-take}
-use Rattle.layout.proofs.reader.cells_to_take.Met as cells-of-thm
-use Rattle.layout.proofs.reader.records_to_take as count-of
-use Rattle.layout.proofs.reader.records_to_take.Symbol as count-of-def
-use Rattle.layout.proofs.reader.records_to_take.Symbol.{name as #layout·records-to-take}
-use Rattle.layout.proofs.reader.records_to_take.Met as count-of-thm
+use Rattle.reader.specs.Inner.{cellsToTake, recordsToTake}
+use Rattle.reader.proofs.cells_to_take as cells-of
+use Rattle.reader.proofs.cells_to_take.Symbol as cells-of-def
+use Rattle.reader.proofs.cells_to_take.Symbol.{name as #reader·cells-to-take}
+use Rattle.reader.proofs.cells_to_take.Met as cells-of-thm
+use Rattle.reader.proofs.records_to_take as count-of
+use Rattle.reader.proofs.records_to_take.Symbol as count-of-def
+use Rattle.reader.proofs.records_to_take.Symbol.{name as #reader·records-to-take}
+use Rattle.reader.proofs.records_to_take.Met as count-of-thm
 
 abbrev pub CellsToTake : {M : Type 1} → Promise M
 CellsToTake 𝓤 H A mem run = tripleOf 𝓤 H A cells-of.signature (cells-of.spec 𝓤 H A mem run)
 
-pub cells-known : {M : Type 1} → Known M CellsToTake #layout·cells-to-take cells-of-def.routine
-cells-known = knows CellsToTake #layout·cells-to-take cells-of-def.routine cells-of-thm.met
+pub cells-known : {M : Type 1} → Known M CellsToTake #reader·cells-to-take cells-of-def.routine
+cells-known = knows CellsToTake #reader·cells-to-take cells-of-def.routine cells-of-thm.met
 
 abbrev pub RecordsToTake : {M : Type 1} → Promise M
 RecordsToTake 𝓤 H A mem run = tripleOf 𝓤 H A count-of.signature (count-of.spec 𝓤 H A mem run)
 
-pub records-known : {M : Type 1} → Known M RecordsToTake #layout·records-to-take count-of-def.routine
-records-known = knows RecordsToTake #layout·records-to-take count-of-def.routine count-of-thm.met
+pub records-known : {M : Type 1} → Known M RecordsToTake #reader·records-to-take count-of-def.routine
+records-known = knows RecordsToTake #reader·records-to-take count-of-def.routine count-of-thm.met
 
 module _ {M : Type 1} (𝓤 : URA M) (H : Heap 𝓤) (A : Atoms 𝓤) (W : Given 𝓤 H A) (mem : Memory → SProp 𝓤)
     (run : Routine → Fun 𝓤) (r : ReadBack) (u : Val) (is : Is S.the-row r (u ∷ [])) where
@@ -71,19 +71,19 @@ module _ {M : Type 1} (𝓤 : URA M) (H : Heap 𝓤) (A : Atoms 𝓤) (W : Given
 
   module _ {K : Type 0} {Γ : List (Item 𝓤)} {E : Env 𝓤 H} {C : Calls 𝓤 H} {Λ : Loops 𝓤 H} {p : Post 𝓤 H}
       {xs : List Operand} {d : Place} {rest : Body} where
-    pub calls-cells : K → FmC 𝓤 H (W .laws) C → Triple 𝓤 (C #layout·cells-to-take) (CellsToTake 𝓤 H A mem run)
+    pub calls-cells : K → FmC 𝓤 H (W .laws) C → Triple 𝓤 (C #reader·cells-to-take) (CellsToTake 𝓤 H A mem run)
         → Opds K W (raw (CellsToTake 𝓤 H A mem run .pre to-cells) ∷ Γ) E xs (u ∷ [])
         → (cellsToTake r < 2 ^ 64 → Seq K W Γ (lands C Λ E d (vint w64 (cellsToTake r)) rest p))
-        → Seq K W Γ (runs C Λ E (seq (call #layout·cells-to-take xs d) rest) p)
+        → Seq K W Γ (runs C Λ E (seq (call #reader·cells-to-take xs d) rest) p)
     calls-cells t fm known os after =
         calls-number t fm (CellsToTake 𝓤 H A mem run) known to-cells (cellsToTake r)
         (ensured 𝓤 H A cells-of.ended (cells-of.clauses 𝓤 H A mem run) tt (r, tt) tt) goes-cells
         (λ v. id⊢ 𝓤 _) cells-said os after
 
-    pub calls-records : K → FmC 𝓤 H (W .laws) C → Triple 𝓤 (C #layout·records-to-take) (RecordsToTake 𝓤 H A mem run)
+    pub calls-records : K → FmC 𝓤 H (W .laws) C → Triple 𝓤 (C #reader·records-to-take) (RecordsToTake 𝓤 H A mem run)
         → Opds K W (raw (RecordsToTake 𝓤 H A mem run .pre to-records) ∷ Γ) E xs (u ∷ [])
         → (recordsToTake r < 2 ^ 64 → Seq K W Γ (lands C Λ E d (vint w64 (recordsToTake r)) rest p))
-        → Seq K W Γ (runs C Λ E (seq (call #layout·records-to-take xs d) rest) p)
+        → Seq K W Γ (runs C Λ E (seq (call #reader·records-to-take xs d) rest) p)
     calls-records t fm known os after =
         calls-number t fm (RecordsToTake 𝓤 H A mem run) known to-records (recordsToTake r)
         (ensured 𝓤 H A count-of.ended (count-of.clauses 𝓤 H A mem run) tt (r, tt) tt) goes-records

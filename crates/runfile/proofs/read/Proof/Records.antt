@@ -21,7 +21,7 @@ use Rattle.table.proofs.Logic.{owned, heard, lasts, ensured, Lasts, tripleOf, T
 use Rattle.record.specs.declared.Peak.{Peak}
 use Rattle.record.proofs.Peak as T
 use Rattle.table.proofs.Walks.{Known, Promise, knows}
-use Rattle.layout.specs.Inner.{Takable, filledFrom}
+use Rattle.reader.specs.Inner.{Takable, filledFrom}
 use Rattle.runfile.proofs.Slices.{valueOf, OwnShr, OwnMut, copies, Leaves, calls-leaves}
 use Rattle.runfile.proofs.take_records as take
 use Rattle.runfile.proofs.take_records.Symbol as take-def

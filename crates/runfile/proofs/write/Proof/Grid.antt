@@ -23,19 +23,19 @@ use Rattle.table.proofs.Logic.{says}
 use Rattle.table.proofs.Walks.{Known, Promise, knows}
 use Rattle.table.proofs.LentAgain.{LentMut, lends-again, comes-back}
 use Rattle.layout.specs.declared.Written.{Written}
-use Rattle.layout.specs.Inner.{Few, GridPut}
 use Rattle.layout.proofs.Written as S
-use Rattle.layout.proofs.writer.put_grid as grid
-use Rattle.layout.proofs.writer.put_grid.Symbol as grid-def
-use Rattle.layout.proofs.writer.put_grid.Symbol.{name as #layout·put-grid}
-use Rattle.layout.proofs.writer.put_grid.Met as grid-thm
+use Rattle.writer.specs.Inner.{Few, GridPut}
+use Rattle.writer.proofs.put_grid as grid
+use Rattle.writer.proofs.put_grid.Symbol as grid-def
+use Rattle.writer.proofs.put_grid.Symbol.{name as #writer·put-grid}
+use Rattle.writer.proofs.put_grid.Met as grid-thm
 use Rattle.runfile.proofs.Slices.{valueOf, sliceAt, OwnShr, copies, Leaves, calls-leaves}
 
 abbrev pub PutGrid : {M : Type 1} → Promise M
 PutGrid 𝓤 H A mem run = tripleOf 𝓤 H A grid.signature (grid.spec 𝓤 H A mem run)
 
-pub grid-known : {M : Type 1} → Known M PutGrid #layout·put-grid grid-def.routine
-grid-known = knows PutGrid #layout·put-grid grid-def.routine grid-thm.met
+pub grid-known : {M : Type 1} → Known M PutGrid #writer·put-grid grid-def.routine
+grid-known = knows PutGrid #writer·put-grid grid-def.routine grid-thm.met
 
 abbrev pub GridLeft : ℕ → List ℤ → ℕ → ℕ → List ℕ → Written → List ℕ → Type 0
 GridLeft rows heights n unsound ys w zs = (length zs ≡ length ys) × GridPut rows heights n unsound ys zs w
@@ -108,7 +108,7 @@ module _ {M : Type 1} (𝓤 : URA M) (H : Heap 𝓤) (A : Atoms 𝓤) (W : Given
 
   module _ {K : Type 0} {Γ : List (Item 𝓤)} {E : Env 𝓤 H} {C : Calls 𝓤 H} {Λ : Loops 𝓤 H} {p : Post 𝓤 H}
       {xs : List Operand} {d : Place} {rest : Body} where
-    pub calls-grid : K → FmC 𝓤 H (W .laws) C → Triple 𝓤 (C #layout·put-grid) (PutGrid 𝓤 H A mem run)
+    pub calls-grid : K → FmC 𝓤 H (W .laws) C → Triple 𝓤 (C #writer·put-grid) (PutGrid 𝓤 H A mem run)
         → rows < 2 ^ 32 → n < 2 ^ 64 → unsound < 2 ^ 64 → Few (length (h .now)) n unsound → Room u8 (length ys)
         → (os : (ν : ℕ) (δ : GName) → Opds K W (raw (PutGrid 𝓤 H A mem run .pre (to-grid ν δ)) ∷ ‵ Hts
         ∷ ‵ (LentMut u8 κ′ (ν ∷ []) q′ γ b o (length ys) δ ys) ∷ Γ) E xs
@@ -116,7 +116,7 @@ module _ {M : Type 1} (𝓤 : URA M) (H : Heap 𝓤) (A : Atoms 𝓤) (W : Given
         → ((w : Written) (v : Val) → Is S.the-row w (v ∷ []) → (zs : List ℕ) → Left w zs
         → Seq K W (‵ Hts ∷ ‵ (flft κ q) ∷ ‵ (RoomAt zs) ∷ ‵ (flft κ′ q′) ∷ Γ) (lands C Λ E d v rest p))
         → Seq K W (‵ Hts ∷ ‵ (flft κ q) ∷ ‵ (RoomAt ys) ∷ ‵ (flft κ′ q′) ∷ Γ)
-        (runs C Λ E (seq (call #layout·put-grid xs d) rest) p)
+        (runs C Λ E (seq (call #writer·put-grid xs d) rest) p)
     calls-grid k fm known rows-fits n-fits unsound-fits few room os after =
         copies k (named 0) κ i32 h $ lft-new k tt (λ ν. move k (4 ∷ 5 ∷ []) $
         use2 W (later (some (λ (δ : GName). ‵ (RoomMut ν δ) ⊛ ‵ (LentMut u8 κ′ (ν ∷ []) q′ γ b o (length ys) δ ys))))

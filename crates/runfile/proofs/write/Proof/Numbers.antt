@@ -24,13 +24,13 @@ use Rattle.table.proofs.Walks.{Known, Promise, knows}
 use Rattle.table.proofs.Locals.{lands-number, calls-number}
 use Rattle.layout.specs.declared.Written.{Written}
 use Rattle.sound.specs.Sound.{FirstUnsound}
-use Rattle.layout.specs.Inner.{putOf}
 use Rattle.layout.proofs.Written as S
 use Rattle.layout.proofs.Written.Laws as S′
-use Rattle.layout.proofs.writer.records_to_put as count-of
-use Rattle.layout.proofs.writer.records_to_put.Symbol as count-of-def
-use Rattle.layout.proofs.writer.records_to_put.Symbol.{name as #layout·records-to-put}
-use Rattle.layout.proofs.writer.records_to_put.Met as count-of-thm
+use Rattle.writer.specs.Inner.{putOf}
+use Rattle.writer.proofs.records_to_put as count-of
+use Rattle.writer.proofs.records_to_put.Symbol as count-of-def
+use Rattle.writer.proofs.records_to_put.Symbol.{name as #writer·records-to-put}
+use Rattle.writer.proofs.records_to_put.Met as count-of-thm
 use Rattle.runfile.proofs.Slices.{valueOf, OwnShr, copies, calls-slices}
 use Rattle.runfile.proofs.first_unsound as unsound
 use Rattle.runfile.proofs.first_unsound.Symbol as unsound-def
@@ -46,8 +46,8 @@ first-known = knows First #runfile·first-unsound unsound-def.routine unsound-th
 abbrev pub RecordsToPut : {M : Type 1} → Promise M
 RecordsToPut 𝓤 H A mem run = tripleOf 𝓤 H A count-of.signature (count-of.spec 𝓤 H A mem run)
 
-pub count-known : {M : Type 1} → Known M RecordsToPut #layout·records-to-put count-of-def.routine
-count-known = knows RecordsToPut #layout·records-to-put count-of-def.routine count-of-thm.met
+pub count-known : {M : Type 1} → Known M RecordsToPut #writer·records-to-put count-of-def.routine
+count-known = knows RecordsToPut #writer·records-to-put count-of-def.routine count-of-thm.met
 
 -- ---- `first_unsound`
 
@@ -120,10 +120,10 @@ module _ {M : Type 1} (𝓤 : URA M) (H : Heap 𝓤) (A : Atoms 𝓤) (W : Given
 
   module _ {K : Type 0} {Γ : List (Item 𝓤)} {E : Env 𝓤 H} {C : Calls 𝓤 H} {Λ : Loops 𝓤 H} {p : Post 𝓤 H}
       {xs : List Operand} {d : Place} {rest : Body} where
-    pub calls-count : K → FmC 𝓤 H (W .laws) C → Triple 𝓤 (C #layout·records-to-put) (RecordsToPut 𝓤 H A mem run)
+    pub calls-count : K → FmC 𝓤 H (W .laws) C → Triple 𝓤 (C #writer·records-to-put) (RecordsToPut 𝓤 H A mem run)
         → n < 2 ^ 64 → Opds K W (raw (RecordsToPut 𝓤 H A mem run .pre to-count) ∷ Γ) E xs (u ∷ vint w64 n ∷ [])
         → (putOf w n < 2 ^ 64 → Seq K W Γ (lands C Λ E d (vint w64 (putOf w n)) rest p))
-        → Seq K W Γ (runs C Λ E (seq (call #layout·records-to-put xs d) rest) p)
+        → Seq K W Γ (runs C Λ E (seq (call #writer·records-to-put xs d) rest) p)
     calls-count s fm known n-fits os after =
         calls-number s fm (RecordsToPut 𝓤 H A mem run) known to-count (putOf w n) CountSaid (goes-count n-fits)
         (λ v. id⊢ 𝓤 _) count-said os after

@@ -23,7 +23,7 @@ use Rattle.table.proofs.Logic.{nothing, owned, heard, lasts, ensured, Lasts, tr
 use Rattle.record.specs.declared.Peak.{Peak}
 use Rattle.record.proofs.Peak as T
 use Rattle.table.proofs.Walks.{Known, Promise, knows}
-use Rattle.layout.specs.Inner.{Puttable, laid}
+use Rattle.writer.specs.Inner.{Puttable, laid}
 use Rattle.runfile.proofs.Slices.{valueOf, sliceAt, OwnShr, copies, Leaves, calls-leaves}
 use Rattle.runfile.proofs.put_records as put
 use Rattle.runfile.proofs.put_records.Symbol as put-def

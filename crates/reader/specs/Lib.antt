@@ -1,0 +1,1 @@
+pub mod Inner  -- what the functions below the call ask and promise
