@@ -4,19 +4,19 @@ use crate::show::show_refusal;
 use crate::text::say;
 use crate::text::say_count;
 use crate::text::say_field;
-use lent::accounts::Asked;
-use lent::accounts::NO;
-use lent::accounts::Rooms;
-use lent::accounts::enough;
-use lent::accounts::no_account;
-use lent::accounts::refusal;
-use lent::accounts::room_for;
-use lent::accounts::verdict;
-use second::Account;
+use lent_accounts::Asked;
+use lent_accounts::NO;
+use lent_accounts::Rooms;
+use lent_accounts::enough;
+use lent_accounts::no_account;
+use lent_accounts::refusal;
+use lent_accounts::room_for;
+use lent_accounts::verdict;
 use second::BLANK;
-use second::Row;
-use second::number_at;
 use second::prominence;
+use second_accounts::Account;
+use second_accounts::Row;
+use second_accounts::number_at;
 
 // Runs them all.
 pub fn run() {
@@ -54,7 +54,7 @@ fn one_row() {
 
 // Prints the account of a peak, and what the check says to it.
 fn show_account(name: &[u8], rows: u32, heights: &[i32], cell: u32) {
-    let account = second::account(rows as usize, heights, cell as usize);
+    let account = second_accounts::account(rows as usize, heights, cell as usize);
     let asked = enough(rows, heights.len(), cell);
     let number = refusal(asked, heights, room_for(heights.len()), account);
     if number != 0 {

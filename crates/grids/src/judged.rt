@@ -1,9 +1,9 @@
 // Accounts from elsewhere, right ones and wrong ones, and what the check says to them.
 use crate::accounts::show_check;
-use lent::accounts::enough;
-use second::Account;
+use lent_accounts::enough;
 use second::BLANK;
-use second::Row;
+use second_accounts::Account;
+use second_accounts::Row;
 
 // Runs them all.
 pub fn run() {
@@ -138,9 +138,9 @@ fn given(key: i32, path: &[u32], island: &[u32]) -> Account {
 }
 
 fn row_of(numbers: &[u32]) -> Row {
-    let mut row = second::empty();
+    let mut row = second_accounts::empty();
     for i in 0..numbers.len() {
-        row = second::with(row, numbers[i]);
+        row = second_accounts::with(row, numbers[i]);
     }
     row
 }

@@ -41,7 +41,7 @@ fn list_rows() {
 // Lists a grid of one flat, which has so many records where it is accepted.
 fn list_of(name: &[u8], rows: u32, heights: &[i32], work: &mut [u8], count: usize) {
     let mut out = [0i64; 256];
-    let refusal = second::list_refusal(rows, heights.len(), work.len() / 4, 1, 1);
+    let refusal = second_refusals::list_refusal(rows, heights.len(), work.len() / 4, 1, 1);
     let told = first::whole(rows, heights, 1, work, 1, &mut out);
     show_refusal(name, agreed(told, refusal, count));
 }
@@ -97,7 +97,7 @@ fn offer(name: &[u8], run: Run, offered: &[i32], grid: &mut [i32]) {
 }
 
 fn refusal_of(run: Run, offered: usize, grid: usize) -> u32 {
-    second::column_refusal(run.rows, run.columns, run.ended, offered, grid, 0, 1, 0)
+    second_refusals::column_refusal(run.rows, run.columns, run.ended, offered, grid, 0, 1, 0)
 }
 
 // The refusal that both listers give, where the first tells of so many records.

@@ -1,8 +1,8 @@
 // The outlines of the one-row run of document 02, and of the three-row grid of the paper.
 use crate::text::say;
-use lent::outlines::answer;
-use second::TEXT;
-use second::Text;
+use lent_outlines::answer;
+use second_outlines::TEXT;
+use second_outlines::Text;
 
 // Prints both.
 pub fn run() {

@@ -8,9 +8,7 @@ use run::Run;
 use run::Started;
 use second::MAX;
 use second::Records;
-
-// The bytes of a work area for as many cells as the second lister takes.
-pub const BYTES: usize = 1024;
+use second::WORK;
 
 // What is asked of a grid.
 pub enum Call {
@@ -59,13 +57,13 @@ fn by_first(call: Call, rows: u32, heights: &[i32], threshold: u32, out: &mut Re
 }
 
 fn list_by_first(rows: u32, heights: &[i32], threshold: u32, out: &mut Records) -> Told {
-    let mut work = [0u8; BYTES];
+    let mut work = [0u8; WORK];
     first::whole(rows, heights, threshold, &mut work, MAX, out)
 }
 
 // The last column is offered to a run that has taken those before it.
 fn column_by_first(rows: u32, heights: &[i32], threshold: u32, out: &mut Records) -> Told {
-    let mut work = [0u8; BYTES];
+    let mut work = [0u8; WORK];
     let mut grid = [0i32; MAX];
     let before = without_last(rows, heights.len());
     lay(heights, before, &mut grid);
@@ -75,7 +73,7 @@ fn column_by_first(rows: u32, heights: &[i32], threshold: u32, out: &mut Records
 }
 
 fn end_by_first(rows: u32, heights: &[i32], threshold: u32, out: &mut Records) -> Told {
-    let mut work = [0u8; BYTES];
+    let mut work = [0u8; WORK];
     let run = taken(rows, heights.len(), threshold);
     let step = first::end(run, heights, &mut work, MAX, out);
     step.told
@@ -146,7 +144,7 @@ fn columns_of(rows: u32, cells: usize) -> u32 {
 
 // The number of the refusal of Start; 99, which no refusal has, where the listers differ.
 pub fn start_refusal(rows: u32) -> u32 {
-    let number = second::start_refusal(rows);
+    let number = second_refusals::start_refusal(rows);
     if number != start_by_first(rows) {
         return 99;
     }

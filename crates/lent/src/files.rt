@@ -2,7 +2,6 @@
 //
 // Every byte of a room, every cell of a row of heights and every entry of a row of records holds a mark before a call,
 // so that what the call does not count is seen to stay.
-ghost use Prim.Native.Nat.{_≤_};
 use crate::first::Told;
 use crate::first::told_of;
 use crate::first::within;
@@ -14,6 +13,8 @@ use crate::same::same_heights;
 use layout::ReadBack;
 use layout::Written;
 use record::Handed;
+use second::WORK;
+use second::least;
 
 // As many bytes as a file of 40 cells and 40 records has.
 pub const BYTES: usize = 824;
@@ -42,7 +43,7 @@ pub struct Taken {
 
 // The list of a grid, into a row of 64 entries; of a grid that is refused, no record.
 pub fn list_of(rows: u32, heights: &[i32], threshold: u32) -> Held {
-    let mut work = [0u8; 1024];
+    let mut work = [0u8; WORK];
     let listed = lend::list(rows, heights, threshold, &mut work, marked(), 64);
     let handed = listed.handed;
     let row = listed.row;
@@ -70,16 +71,6 @@ pub fn write(rows: u32, heights: &[i32], held: Held, bytes: usize) -> Filed {
         told: told,
         file: file,
     }
-}
-
-// The lesser of two numbers.
-pub fn least(n: usize, most: usize) -> usize
-    ensures { λ r. ⌜ r ≤ most ⌝ }
-{
-    if n > most {
-        return most;
-    }
-    n
 }
 
 fn of_written(written: Written, file: &[u8; BYTES]) -> Told {

@@ -9,20 +9,22 @@ use crate::changed::repeated;
 use crate::changed::wandering;
 use crate::changed::without;
 use crate::random::CELLS;
-use lent::accounts::Asked;
-use lent::accounts::DIFFER;
-use lent::accounts::NO;
-use lent::accounts::Rooms;
-use lent::accounts::enough;
-use lent::accounts::no_account;
-use lent::accounts::refusal;
-use lent::accounts::room_for;
-use lent::accounts::verdict;
 use lent::answers::narrow;
-use lent::files::least;
-use second::Account;
+use lent_accounts::Asked;
+use lent_accounts::DIFFER;
+use lent_accounts::NO;
+use lent_accounts::Rooms;
+use lent_accounts::enough;
+use lent_accounts::no_account;
+use lent_accounts::refusal;
+use lent_accounts::room_for;
+use lent_accounts::verdict;
 use second::BLANK;
-use second::Row;
+use second::least;
+use second::sets;
+use second_accounts::Account;
+use second_accounts::Row;
+use second_accounts::cell_at;
 
 // Whether they agree on every cell, those that are not there too.
 pub fn agree(rows: usize, heights: &[i32]) -> bool {
@@ -42,7 +44,7 @@ pub fn changed_gets(number: u32, rows: usize, heights: &[i32]) -> bool {
                 number,
                 asking(rows, heights.len(), cell),
                 heights,
-                second::account(rows, heights, cell),
+                second_accounts::account(rows, heights, cell),
             )
         {
             return true;
@@ -63,7 +65,11 @@ fn cell_agrees(asked: Asked, heights: &[i32]) -> bool {
     if !second::is_peak(rows, heights, cell) {
         return other_agrees(asked, heights);
     }
-    peak_agrees(asked, heights, second::account(rows, heights, cell))
+    peak_agrees(
+        asked,
+        heights,
+        second_accounts::account(rows, heights, cell),
+    )
 }
 
 // Whether they agree on a cell that is no peak's: 17 before 18.
@@ -237,18 +243,11 @@ fn declines_island(asked: Asked, heights: &[i32], account: Account, island: Row)
 fn no_cell_twice(path: Row) -> bool {
     let mut seen = 0u64;
     for i in 0..path.count {
-        let bit = bit_of(second::cell_at(path, i));
-        if seen & bit != 0 {
+        let cell = sets::only(cell_at(path, i));
+        if seen & cell != 0 {
             return false;
         }
-        seen |= bit;
+        seen |= cell;
     }
     true
-}
-
-fn bit_of(cell: usize) -> u64 {
-    if cell >= 64 {
-        return 0;
-    }
-    1 << cell
 }

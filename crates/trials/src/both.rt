@@ -1,10 +1,10 @@
 // One call, accepted or refused, of both listers: what is asked of them and what they tell is compared.
-use lent::answers::BYTES;
 use lent::first;
 use lent::first::Told;
 use lent::records::same;
 use run::Run;
 use second::Records;
+use second::WORK;
 
 // What a call is lent beside its grid: a work area of so many bytes, and a table of so many records or, for an outline,
 // a room of so many bytes.
@@ -72,10 +72,10 @@ pub fn list_agrees(
     records: &Records,
     count: usize,
 ) -> bool {
-    let mut work = [0u8; BYTES];
+    let mut work = [0u8; WORK];
     let mut out = [0i64; 256];
     let bytes = lent.bytes;
-    if bytes > BYTES {
+    if bytes > WORK {
         return false;
     }
     let told = first::whole(
@@ -86,7 +86,7 @@ pub fn list_agrees(
         lent.room,
         &mut out,
     );
-    let refusal = second::list_refusal(rows, heights.len(), bytes / 4, lent.room, count);
+    let refusal = second_refusals::list_refusal(rows, heights.len(), bytes / 4, lent.room, count);
     tells(told, &out, refusal, records, count)
 }
 
@@ -99,10 +99,10 @@ pub fn offer(
     records: &Records,
     count: usize,
 ) -> Turn {
-    let mut work = [0u8; BYTES];
+    let mut work = [0u8; WORK];
     let mut out = [0i64; 256];
     let bytes = lent.bytes;
-    if bytes > BYTES {
+    if bytes > WORK {
         return Turn {
             run: run,
             agrees: false,
@@ -119,10 +119,10 @@ pub fn offer(
 
 // Whether the listers agree on an end call, where the second one hands out `count` records.
 pub fn end_agrees(run: Run, grid: &[i32], lent: Lent, records: &Records, count: usize) -> bool {
-    let mut work = [0u8; BYTES];
+    let mut work = [0u8; WORK];
     let mut out = [0i64; 256];
     let bytes = lent.bytes;
-    if bytes > BYTES {
+    if bytes > WORK {
         return false;
     }
     let step = first::end(run, grid, &mut work[..bytes], lent.room, &mut out);
@@ -133,7 +133,7 @@ pub fn end_agrees(run: Run, grid: &[i32], lent: Lent, records: &Records, count: 
 // The refusal that the second lister gives to a column call, and to an end call.
 fn column_refusal(run: Run, offered: usize, grid: usize, lent: Lent, count: usize) -> u32 {
     let bytes = lent.bytes;
-    second::column_refusal(
+    second_refusals::column_refusal(
         run.rows,
         run.columns,
         run.ended,
@@ -147,7 +147,7 @@ fn column_refusal(run: Run, offered: usize, grid: usize, lent: Lent, count: usiz
 
 fn end_refusal(run: Run, grid: usize, lent: Lent, count: usize) -> u32 {
     let bytes = lent.bytes;
-    second::end_refusal(
+    second_refusals::end_refusal(
         run.rows,
         run.columns,
         run.ended,

@@ -1,10 +1,10 @@
 // Accounts and rows that are changed in one number, or in how many they have.
-use second::Account;
 use second::MAX;
-use second::Row;
-use second::empty;
-use second::number_at;
-use second::with;
+use second_accounts::Account;
+use second_accounts::Row;
+use second_accounts::empty;
+use second_accounts::number_at;
+use second_accounts::with;
 
 // The account with a key height that is one higher; the lowest height where there was none.
 pub fn raised(account: Account) -> Account {

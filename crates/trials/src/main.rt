@@ -16,7 +16,7 @@ mod random; // random.rt: made-up grids
 mod refiled; // refiled.rt: run files written and read back
 
 use crate::random::CELLS;
-use lent::accounts::NO;
+use lent_accounts::NO;
 use libc::STDOUT_FILENO;
 
 // How many made-up grids each relation is tried on.

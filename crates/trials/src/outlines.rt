@@ -5,15 +5,15 @@ use crate::both::byte_short;
 use crate::both::enough;
 use crate::both::no_room;
 use crate::both::room_short;
-use lent::answers::BYTES;
 use lent::answers::narrow;
 use lent::answers::without_last;
-use lent::outlines::answer;
-use lent::outlines::ended;
-use lent::outlines::refusal;
+use lent_outlines::answer;
+use lent_outlines::ended;
+use lent_outlines::refusal;
 use run::Run;
-use second::TEXT;
-use second::Text;
+use second::WORK;
+use second_outlines::TEXT;
+use second_outlines::Text;
 
 // What a call is asked with beside its grid.
 struct Asked {
@@ -32,7 +32,7 @@ pub fn agree(rows: usize, heights: &[i32], threshold: u32, levels: u32) -> bool 
 // Whether they agree where the run has taken the whole grid, with refused calls.
 fn calls_agree(rows: usize, heights: &[i32], threshold: u32, levels: u32) -> bool {
     let mut text = [0u8; TEXT];
-    let count = second::outline(rows, heights, threshold, levels, &mut text);
+    let count = second_outlines::outline(rows, heights, threshold, levels, &mut text);
     let asked = Asked {
         run: ended(narrow(rows), heights.len(), threshold),
         levels: levels,
@@ -51,9 +51,9 @@ fn part_agrees(rows: usize, heights: &[i32], threshold: u32, levels: u32) -> boo
         return false;
     }
     let mut text = [0u8; TEXT];
-    let count = second::outline(rows, &heights[0..before], threshold, levels, &mut text);
+    let count = second_outlines::outline(rows, &heights[0..before], threshold, levels, &mut text);
     let run = ended(narrow(rows), before, threshold);
-    refusal(run, heights, levels, BYTES, TEXT, &text, count) == 0
+    refusal(run, heights, levels, WORK, TEXT, &text, count) == 0
 }
 
 // Whether they agree on the outline of all peaks: only its tops, two or three levels, and all of it.
