@@ -9,9 +9,8 @@
 use mathlib.Core.List.{List, _++_, map}
 use mathlib.Core.Logic.{_⊎_, inl, inr}
 use mathlib.Core.Path.{_≡_, refl, sym, ap, _∙_}
-use Prim.Native.Nat.{ℕ, zero, suc, _+_, _-_, _*_, _/_, _%_, _<_}
-use native.Mathlib.Decide.{decLt}
-use native.Mathlib.Nat.{mul-div-right, div-add-mod}
+use Prim.Native.Nat.{ℕ, _+_, _*_, _/_, _<_}
+use native.Mathlib.Nat.{div-add-mod}
 use native.Mathlib.Omega.{arith}
 use lib.IntN.{ℤ}
 use lib.ListN.{length, getD, length-append, length-map, List·getD-append, List·getD-map}
@@ -21,14 +20,13 @@ use mir.Val.{SFits}
 use Rattle.relief.specs.Heights.{BLANK}
 use Rattle.record.specs.declared.Peak.{Peak}
 use Rattle.words.specs.Words.{wordAt}
-use Rattle.words.proofs.Laws.{word-below}
-use Rattle.layout.specs.Layout.{bitsOf, signedOf, wordOf, totalOf, headerOf, fieldsOf, allFieldsOf}
+use Rattle.layout.specs.Layout.{bitsOf, signedOf, totalOf, headerOf, fieldsOf, allFieldsOf}
 use Rattle.layout.specs.Layout.{numbersOf, fileOf, rowsIn, columnsIn, peaksIn, cellsIn, heightsIn}
 use Rattle.layout.specs.Layout.{peakFrom, recordFrom, recordsFrom}
 use Rattle.sound.specs.Sound.{Keyless, Keyed, ithOf, GridOf, SoundRow}
 use Rattle.sound.proofs.Cells.{at-any}
-use Rattle.layout.proofs.Complement.{signed-bits, bits-signed}
-use Rattle.layout.proofs.Rows.{four-length, four-at, record-four, bytes-length, bytes-at, bytes-word}
+use Rattle.layout.proofs.Complement.{signed-bits}
+use Rattle.layout.proofs.Rows.{four-length, four-at, record-four, bytes-length, bytes-word}
 use Rattle.layout.proofs.Rows.{heights-length, heights-at, peaks-length, peaks-at}
 
 -- ---- the numbers of a written file
