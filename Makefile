@@ -14,6 +14,11 @@ test:
 	@echo "test: proving every crate from nothing and trying every must-fail edit; 25 to 40 minutes" >&2
 	@python3 tests/edits/gate.py
 
+# rt waits for each batch of so many crates or edits: with one more than there are cores none is idle while the last of a
+# batch ends. Each takes up to 1.5 GB.
+RT_JOBS ?= $(shell expr $$(nproc) + 1)
+export RT_JOBS
+
 # Of jobs that run beside each other, one at a time may prove: rt writes to target/.
 PROVE = mkdir -p target && flock target/prove.lock rt
 
