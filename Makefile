@@ -7,11 +7,11 @@
 .PHONY: test proved run bench layout pages tools peaks outlines
 
 test:
-	@echo "test: layout, pages, tools, C++ tests, the programs' files, then all proofs; 30 to 50 minutes" >&2
+	@echo "test: layout, pages, tools, C++ tests, the programs' files, then all proofs; 20 to 45 minutes" >&2
 	@$(MAKE) --no-print-directory cpp-tools
 	@$(MAKE) --no-print-directory -j3 -Oline layout pages tools cpp-objects proved
 	@$(MAKE) --no-print-directory -j3 -Oline cpp-test peaks outlines
-	@echo "test: proving every crate from nothing and trying every must-fail edit; 25 to 40 minutes" >&2
+	@echo "test: proving every crate from nothing and trying every must-fail edit; 17 to 38 minutes" >&2
 	@python3 tests/edits/gate.py
 
 # rt waits for each batch of so many crates or edits: with one more than there are cores none is idle while the last of a
