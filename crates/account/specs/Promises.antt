@@ -42,7 +42,7 @@ verdictTold Verdict.Yes = granted (1 ∷ [])
 verdictTold Verdict.No = granted (0 ∷ [])
 verdictTold (Verdict.Refused r) = toldOf r
 
--- A key height in an answer is a signed 32-bit number; of those one has a given level (`LevelInjective` of `record`).
+-- A key height in an answer is a signed 32-bit number; of those one has a given level (`LevelInjective` of `scale`).
 abbrev pub keyFits : Accounted → Type 0
 keyFits (Account.Given key path island) = SFits w32 key
 keyFits (Account.Refused r) = Unit {0}

@@ -1,5 +1,5 @@
 -- The heights of lent bytes, loaded as levels.
---     loads-signed     a turn of the loop that loads, by `Loads` of the crate `survey`
+--     loads-signed     a turn of the loop that loads, by `Loads` of the crate `heights`
 -- Assumes nothing.
 use mathlib.Core.Path.{_≡_, sym, _∙_, ap}
 use mathlib.Core.List.{List}
