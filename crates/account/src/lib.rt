@@ -9,14 +9,14 @@ use record::{Checked, Refusal};
 
 // What the account call answers: the key height, or the mark of a missing one, and how many cells path and island have;
 // or why it is refused.
-#[derive(Drop)]
+#[derive(Clone, Copy)]
 pub enum Accounted {
     Given { key: i32, path: u32, island: u32 },
     Refused(Refusal),
 }
 
 // What the check answers: whether it is an account of the peak; or why it is refused.
-#[derive(Drop)]
+#[derive(Clone, Copy)]
 pub enum Verdict {
     Yes,
     No,

@@ -202,7 +202,7 @@ fn accounts(
 }
 
 // What a check finds: the cell is no peak's, or it is, and this is an account of it or not.
-#[derive(Drop)]
+#[derive(Clone, Copy)]
 pub enum Finding {
     NoPeak,
     Account,

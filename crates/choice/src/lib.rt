@@ -6,7 +6,7 @@ ghost use Rattle.choice.specs.Inner.{wants_part, chosen_in, Choosing, Collecting
 ghost use Rattle.choice.specs.Inner.{marked_number, Marked};
 
 // Which of the listed peaks are wanted.
-#[derive(Drop)]
+#[derive(Clone, Copy)]
 pub enum Part {
     // All of them.
     Whole,

@@ -11,14 +11,14 @@ use record::Refusal;
 pub use records::{lay_records, peak_from, put_peak, put_record, record_from};
 
 // What writing comes to: the number of bytes written, or why nothing was.
-#[derive(Drop)]
+#[derive(Clone, Copy)]
 pub enum Written {
     Bytes(u32),
     Refused(Refusal),
 }
 
 // What reading comes to: the counts of the run read, or why nothing was.
-#[derive(Drop)]
+#[derive(Clone, Copy)]
 pub enum ReadBack {
     Run { rows: u32, columns: u32, peaks: u32 },
     Refused(Refusal),

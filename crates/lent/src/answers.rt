@@ -8,7 +8,7 @@ use run::{Run, Started};
 use second::{MAX, Records, WORK};
 
 // What is asked of a grid.
-#[derive(Drop)]
+#[derive(Clone, Copy)]
 pub enum Call {
     // The list of the whole grid.
     List,

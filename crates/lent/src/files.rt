@@ -17,21 +17,21 @@ pub const BYTES: usize = 824;
 pub const CELLS: usize = 64;
 
 // The records of a list, as many as are counted, in a row.
-#[derive(Drop)]
+#[derive(Clone, Copy)]
 pub struct Held {
     pub row: Row,
     pub count: usize,
 }
 
 // What writing tells, with the number of bytes, and the room after it.
-#[derive(Drop)]
+#[derive(Clone, Copy)]
 pub struct Filed {
     pub told: Told,
     pub file: [u8; BYTES],
 }
 
 // What reading answers, and the heights and the row after it.
-#[derive(Drop)]
+#[derive(Clone, Copy)]
 pub struct Taken {
     pub answer: ReadBack,
     pub heights: [i32; CELLS],

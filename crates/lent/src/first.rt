@@ -9,7 +9,7 @@ use second::Records;
 
 // What a call tells: the number of its refusal, 0 for none, how many records it has, and whether all that it does not
 // fill is as it was. At a refusal the number is that which it also returns: at 5 the records that are needed.
-#[derive(Drop)]
+#[derive(Clone, Copy)]
 pub struct Told {
     pub refusal: u32,
     pub count: usize,
@@ -17,7 +17,7 @@ pub struct Told {
 }
 
 // The run record after a call, and what the call tells.
-#[derive(Drop)]
+#[derive(Clone, Copy)]
 pub struct Stepped {
     pub run: Run,
     pub told: Told,

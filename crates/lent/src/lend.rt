@@ -7,21 +7,21 @@ use record::Handed;
 use run::{Run, Step};
 
 // What the whole-grid call answers, and the row after it.
-#[derive(Drop)]
+#[derive(Clone, Copy)]
 pub struct Listed {
     pub handed: Handed,
     pub row: Row,
 }
 
 // What a call on a run answers, and the row after it.
-#[derive(Drop)]
+#[derive(Clone, Copy)]
 pub struct Stepped {
     pub step: Step,
     pub row: Row,
 }
 
 // What reading a file answers, and the row after it.
-#[derive(Drop)]
+#[derive(Clone, Copy)]
 pub struct Back {
     pub answer: ReadBack,
     pub row: Row,

@@ -13,7 +13,7 @@ pub const DIFFER: u32 = 99;
 const MARK: u32 = 77;
 
 // Which cell is asked about, of a grid of so many rows, with a work area of so many bytes.
-#[derive(Drop)]
+#[derive(Clone, Copy)]
 pub struct Asked {
     pub rows: u32,
     pub cell: u32,
@@ -21,7 +21,7 @@ pub struct Asked {
 }
 
 // The numbers for which an account call is lent room.
-#[derive(Drop)]
+#[derive(Clone, Copy)]
 pub struct Rooms {
     pub path: usize,
     pub island: usize,
@@ -31,7 +31,7 @@ pub struct Rooms {
 type Room = [u32; MAX];
 
 // What the first lister answers, and the rooms after it.
-#[derive(Drop)]
+#[derive(Clone, Copy)]
 struct Drawn {
     answer: Accounted,
     path: Room,

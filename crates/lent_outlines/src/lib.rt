@@ -9,7 +9,7 @@ use second::{WORK, least};
 use second_outlines::{TEXT, Text};
 
 // What the first lister's call tells, with the number of bytes, and the text room after it.
-#[derive(Drop)]
+#[derive(Clone, Copy)]
 struct Printed {
     told: Told,
     text: Text,

@@ -12,7 +12,7 @@ use record::{Checked, Refusal};
 use run::Run;
 
 // What an outline comes to: the number of bytes written, or why nothing was.
-#[derive(Drop)]
+#[derive(Clone, Copy)]
 pub enum Outlined {
     Bytes(u32),
     Refused(Refusal),

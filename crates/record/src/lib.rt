@@ -7,7 +7,7 @@ ghost use Rattle.record.specs.Refusals.{told_of, bad_rows};
 ghost use Rattle.record.specs.Inner.{then_test};
 
 // What a cell of the grid holds: a height, or the blank mark.
-#[derive(Drop)]
+#[derive(Clone, Copy)]
 pub struct Cell {
     pub height: i32,
 }
@@ -29,7 +29,7 @@ impl Cell {
 }
 
 // The record of a peak: its cell, its height, its key height and its pass cell.
-#[derive(Drop)]
+#[derive(Clone, Copy)]
 pub struct Peak {
     pub cell: u32,
     pub height: i32,
@@ -106,7 +106,7 @@ pub fn prominence(height: i32, key: i32) -> u32
 // Why a call is refused: the cases of document 01's table "What comes back", then those of document 02, in order of
 // their numbers, with what they also return.
 // A number needed fits 32 bits: no file is longer than 24 + 20 x 1,048,576 bytes.
-#[derive(Drop)]
+#[derive(Clone, Copy)]
 pub enum Refusal {
     Rows,
     Length,
@@ -129,7 +129,7 @@ pub enum Refusal {
 }
 
 // What the tests of a call say: none applies, or the first that does refuses it.
-#[derive(Drop)]
+#[derive(Clone, Copy)]
 pub enum Checked {
     Good,
     Bad(Refusal),
@@ -179,7 +179,7 @@ pub fn short_work(work: usize, cells: usize) -> bool
 }
 
 // What a call that fills a peak table answers: how many peaks are handed out, or why it is refused.
-#[derive(Drop)]
+#[derive(Clone, Copy)]
 pub enum Handed {
     Count(u32),
     Refused(Refusal),

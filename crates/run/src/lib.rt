@@ -9,14 +9,14 @@ use record::{Checked, Handed, Peak, Refusal};
 pub use running::Run;
 
 // What Start answers: a record of zero columns, or why it is refused.
-#[derive(Drop)]
+#[derive(Clone, Copy)]
 pub enum Started {
     Begun(Run),
     Refused(Refusal),
 }
 
 // The run record after a call, and the answer.
-#[derive(Drop)]
+#[derive(Clone, Copy)]
 pub struct Step {
     pub run: Run,
     pub handed: Handed,

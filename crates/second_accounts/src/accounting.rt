@@ -5,7 +5,7 @@ use second::touch::Near;
 use second::{BLANK, ground, peaks};
 
 // What an account says: the key height, or the mark of a missing one, the path and the island.
-#[derive(Drop)]
+#[derive(Clone, Copy)]
 pub struct Account {
     pub key: i32,
     pub path: Row,

@@ -2,7 +2,7 @@
 use second::{MAX, sets};
 
 // The first `count` numbers are the row.
-#[derive(Drop)]
+#[derive(Clone, Copy)]
 pub struct Row {
     pub numbers: [u32; MAX],
     pub count: usize,

@@ -4,7 +4,7 @@ use crate::{Text, parents, text};
 use second::{MAX, ground};
 
 // A place in an outline: a peak, and its level. Behind the last place the peak is `MAX`.
-#[derive(Drop)]
+#[derive(Clone, Copy)]
 struct Place {
     peak: usize,
     level: u32,

@@ -7,14 +7,14 @@ use second::{Records, WORK};
 
 // What a call is lent beside its grid: a work area of so many bytes, and a table of so many records or, for an outline,
 // a room of so many bytes.
-#[derive(Drop)]
+#[derive(Clone, Copy)]
 pub struct Lent {
     pub bytes: usize,
     pub room: usize,
 }
 
 // The run record after a call, and whether the listers agree on the call.
-#[derive(Drop)]
+#[derive(Clone, Copy)]
 pub struct Turn {
     pub run: Run,
     pub agrees: bool,

@@ -33,7 +33,7 @@ const FIRST_ACCOUNT: u64 = 1150;
 const END: u64 = 1300;
 
 // What is tried.
-#[derive(Drop)]
+#[derive(Clone, Copy)]
 enum Trial {
     // The batches of a run are its list, pass cells apart.
     Batches,

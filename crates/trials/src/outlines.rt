@@ -7,7 +7,7 @@ use second::WORK;
 use second_outlines::{TEXT, Text};
 
 // What a call is asked with beside its grid.
-#[derive(Drop)]
+#[derive(Clone, Copy)]
 struct Asked {
     run: Run,
     levels: u32,

@@ -5,11 +5,11 @@ use Rattle.record.proofs.bad_rows.Statement.{statement}
 use Rattle.record.proofs.bad_rows.Tie as tie
 use mathlib.Core.Path.{sym}
 
-returns : tie.Need-returns
-returns c = sym (rows_none c.if1.true)
+returns : tie.Need-returns-then-rows-eq0
+returns c = sym (rows_none c.if-rows-eq0.true)
 
-returns-2 : tie.Need-returns-2
-returns-2 c = simp (ne_eqb c.before.args.rows 0 c.if1.false)
+returns-2 : tie.Need-returns
+returns-2 c = simp (ne_eqb c.args.rows 0 c.if-rows-eq0.false)
 
-pub bad-rows-spec : {M : Type 1} → statement M
-bad-rows-spec = tie.close (tie.spec returns returns-2)
+pub bad_rows_spec : {M : Type 1} → statement M
+bad_rows_spec = tie.close (tie.spec returns returns-2)

@@ -21,13 +21,13 @@ lowered c = ap (λ (z : ℤ). z -ℤ pos 2147483648) (to_z_pos w64 c.args.level 
 fits : (c : tie.Start) → SFits w32 (difference c)
 fits c = rw (lowered c) (level-onto c.args.level (omega arith)).0
 
-cast-result : tie.Need-overflow-cast-result
+cast-result : tie.Need-overflow_cast-result
 cast-result c = search rules
 
-sub-result : tie.Need-overflow-sub-result
+sub-result : tie.Need-overflow_sub-result
 sub-result c = wide_fits (fits c)
 
-cast-result-2 : tie.Need-overflow-cast-result-2
+cast-result-2 : tie.Need-overflow_cast-result-2
 cast-result-2 c = rw (to_z-of_z w64 (difference c) (wide_fits (fits c))) (fits c)
 
 returns : tie.Need-returns

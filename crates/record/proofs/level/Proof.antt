@@ -15,17 +15,17 @@ raised :
     to_z w64 (of_z w64 (to_z w32 (of_z w32 c.args.height))) +ℤ pos 2147483648 ≡ pos (level_of c.args.height)
 raised c = rw (wide_read c.ranges.height) (level-raise c.ranges.height)
 
-cast-result : tie.Need-overflow-cast-result
+cast-result : tie.Need-overflow_cast-result
 cast-result c = wide-cast c.ranges.height
 
-add-result : tie.Need-overflow-add-result
+add-result : tie.Need-overflow_add-result
 add-result c = natural-fits (raised c) (level-below c.ranges.height)
 
-cast-result-2 : tie.Need-overflow-cast-result-2
+cast-result-2 : tie.Need-overflow_cast-result-2
 cast-result-2 c = natural-cast (raised c) (level-below c.ranges.height)
 
 returns : tie.Need-returns
 returns c = natural-read (raised c) (level-below c.ranges.height)
 
-pub level-spec : {M : Type 1} → statement M
-level-spec = tie.close (tie.spec cast-result add-result cast-result-2 returns)
+pub level_spec : {M : Type 1} → statement M
+level_spec = tie.close (tie.spec cast-result add-result cast-result-2 returns)

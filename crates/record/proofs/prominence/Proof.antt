@@ -14,43 +14,43 @@ use Rattle.record.proofs.Widths.{wide-cast, wide_read, natural-fits, natural-cas
 use Rattle.record.proofs.prominence.Statement.{statement}
 use Rattle.record.proofs.prominence.Tie as tie
 
-returns : tie.Need-returns
+returns : tie.Need-returns-then-height-key
 returns c =
     let s = c.before in
     let e = rw (to_z-of_z w32 s.args.height s.ranges.height, to_z-of_z w32 s.args.key s.ranges.key)
-    at c.if1.true in
+    at c.if-height-key.true in
     let l : s.args.height <ℤ s.args.key = lt_z_yes (rw e tt) in
     record { difference = λ h. absurd (clash_ℤ l h); none = λ h. refl }
 
-module _ (c : tie.Else1) where
-  over : c.before.args.key ≤ℤ c.before.args.height
+module _ (c : tie.Else-height-key) where
+  over : c.args.key ≤ℤ c.args.height
   over =
       let s = c.before in
       let e = rw (to_z-of_z w32 s.args.height s.ranges.height, to_z-of_z w32 s.args.key s.ranges.key)
-      at c.if1.false in
+      at c.if-height-key.false in
       lt_z_no (rw e tt)
 
-  below : level_of c.before.args.height - level_of c.before.args.key < 4294967296
-  below = omega (arith, level-below c.before.ranges.height)
+  below : level_of c.args.height - level_of c.args.key < 4294967296
+  below = omega (arith, level-below c.ranges.height)
 
-  difference : c.before.args.height -ℤ c.before.args.key
-      ≡ pos (level_of c.before.args.height - level_of c.before.args.key)
-  difference = sym (level-difference c.before.ranges.height c.before.ranges.key over)
+  difference : c.args.height -ℤ c.args.key
+      ≡ pos (level_of c.args.height - level_of c.args.key)
+  difference = sym (level-difference c.ranges.height c.ranges.key over)
 
   subtracted :
-      to_z w64 (of_z w64 (to_z w32 (of_z w32 c.before.args.height)))
-      -ℤ to_z w64 (of_z w64 (to_z w32 (of_z w32 c.before.args.key)))
-      ≡ pos (level_of c.before.args.height - level_of c.before.args.key)
-  subtracted = rw (wide_read c.before.ranges.height, wide_read c.before.ranges.key) difference
+      to_z w64 (of_z w64 (to_z w32 (of_z w32 c.args.height)))
+      -ℤ to_z w64 (of_z w64 (to_z w32 (of_z w32 c.args.key)))
+      ≡ pos (level_of c.args.height - level_of c.args.key)
+  subtracted = rw (wide_read c.ranges.height, wide_read c.ranges.key) difference
 
-returns-2 : tie.Need-returns-2
+returns-2 : tie.Need-returns
 returns-2 c = record {
   difference = λ h. ap pos (natural-read (subtracted c) (below c)) ∙ sym (difference c);
   none = λ h. absurd (clash_ℤ h (over c));
 }
 
-pub prominence-spec : {M : Type 1} → statement M
-prominence-spec =
+pub prominence_spec : {M : Type 1} → statement M
+prominence_spec =
     tie.close
     (tie.spec returns (λ c. wide-cast c.before.ranges.height) (λ c. wide-cast c.before.ranges.key)
     (λ c. natural-fits (subtracted c) (below c)) (λ c. natural-cast (subtracted c) (below c)) returns-2)

@@ -18,5 +18,5 @@ divided work cells = elim (dec_lt (work / 16) cells) [
 returns : tie.Need-returns
 returns c = divided c.args.work c.args.cells
 
-pub short-work-spec : {M : Type 1} → statement M
-short-work-spec = tie.close (tie.spec returns)
+pub short_work_spec : {M : Type 1} → statement M
+short_work_spec = tie.close (tie.spec returns)

@@ -22,14 +22,14 @@ passed : {checked : Checked} {applies : Bool} (r : Refusal) → checked ≡ Good
     → checked ≡ then_test checked applies r
 passed r e f = e ∙ sym (ap₂ (λ (c : Checked) (b : Bool). then_test c b r) e f)
 
-returns : tie.Need-returns
-returns c = applied c.before.enum-told2.given.1 c.if1.true
+returns : tie.Need-returns-then-applies
+returns c = applied c.in-Good.is c.if-applies.true
 
-returns-2 : tie.Need-returns-2
-returns-2 c = let a = c.before.before.args in kept a.applies a.refusal c.enum_told.given.1
+returns-2 : tie.Need-returns-in-Bad
+returns-2 c = let a = c.args in kept a.applies a.refusal c.in-Bad.is
 
-returns-3 : tie.Need-returns-3
-returns-3 c = passed c.before.before.before.args.refusal c.before.enum-told2.given.1 c.if1.false
+returns-3 : tie.Need-returns-else-applies
+returns-3 c = passed c.args.refusal c.in-Good.is c.if-applies.false
 
-pub then-test-spec : {M : Type 1} → statement M
-then-test-spec = tie.close (tie.spec (λ c. search rules) (λ c. search rules) returns returns-2 returns-3)
+pub then_test_spec : {M : Type 1} → statement M
+then_test_spec = tie.close (tie.spec (λ c. search rules) (λ c. search rules) returns returns-2 returns-3)

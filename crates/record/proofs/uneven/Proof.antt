@@ -11,8 +11,8 @@ use Rattle.record.proofs.uneven.Tie as tie
 by-none : (n : ℕ) {rows : ℕ} → rows ≡ 0 → not (eqb n 0) ≡ not (eqb (n % rows) 0)
 by-none n e = ap (λ (m : ℕ). not (eqb m 0)) (sym (ap (λ (r : ℕ). n % r) e ∙ mod-zero n))
 
-returns : tie.Need-returns
-returns c = by-none c.before.args.numbers c.if1.true
+returns : tie.Need-returns-then-rows-eq0
+returns c = by-none c.args.numbers c.if-rows-eq0.true
 
-pub uneven-spec : {M : Type 1} → statement M
-uneven-spec = tie.close (tie.spec returns (λ c. search rules) (λ c. search rules))
+pub uneven_spec : {M : Type 1} → statement M
+uneven_spec = tie.close (tie.spec returns (λ c. search rules) (λ c. search rules))

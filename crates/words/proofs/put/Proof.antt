@@ -7,13 +7,13 @@ use Rattle.words.proofs.Laws.{store_word}
 use Rattle.words.proofs.put.Statement.{statement}
 use Rattle.words.proofs.put.Tie as tie
 
-slice-write-s-2 : tie.Need-slice-write-s-2
+slice-write-s-2 : tie.Need-bounds-s-at-2
 slice-write-s-2 c = simp length-set (omega arith)
 
-slice-write-s-3 : tie.Need-slice-write-s-3
+slice-write-s-3 : tie.Need-bounds-s-at-3
 slice-write-s-3 c = simp length-set (omega arith)
 
-slice-write-s-4 : tie.Need-slice-write-s-4
+slice-write-s-4 : tie.Need-bounds-s-at-4
 slice-write-s-4 c = simp length-set (omega arith)
 
 returns : tie.Need-returns

@@ -4,7 +4,7 @@ use Rattle.record.proofs.Cell.is_blank.Statement.{statement}
 use Rattle.record.proofs.Cell.is_blank.Tie as tie
 
 returns : tie.Need-returns
-returns c = mark-bits {z = c.before.before.args.self.height} (record { sfits = c.struct_told.given.0.1 })
+returns c = mark-bits {z = c.args.self.height} (record { sfits = c.struct_told-1.given.0.1 })
 
-pub is-blank-spec : {M : Type 1} → statement M
-is-blank-spec = tie.close (tie.spec returns)
+pub is_blank_spec : {M : Type 1} → statement M
+is_blank_spec = tie.close (tie.spec returns)

@@ -7,8 +7,8 @@ use Rattle.record.proofs.Peak.has_key.Tie as tie
 
 returns : tie.Need-returns
 returns c =
-    let told = c.struct_told.given.1.1.0 in
-    ap not (mark-bits {z = c.before.before.args.self.key} (record { sfits = told.1 }))
+    let told = c.struct_told-1.given.1.1.0 in
+    ap not (mark-bits {z = c.args.self.key} (record { sfits = told.1 }))
 
-pub has-key-spec : {M : Type 1} → statement M
-has-key-spec = tie.close (tie.spec returns)
+pub has_key_spec : {M : Type 1} → statement M
+has_key_spec = tie.close (tie.spec returns)

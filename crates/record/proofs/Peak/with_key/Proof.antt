@@ -14,5 +14,5 @@ returns c =
     ap₂ (λ (height key : ℤ). with_key args.cell height key args.pass)
     (to_z-of_z w32 args.height c.ranges.height) (to_z-of_z w32 args.key c.ranges.key)
 
-pub with-key-spec : {M : Type 1} → statement M
-with-key-spec = tie.close (tie.spec returns)
+pub with_key_spec : {M : Type 1} → statement M
+with_key_spec = tie.close (tie.spec returns)

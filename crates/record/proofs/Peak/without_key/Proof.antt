@@ -13,5 +13,5 @@ returns c =
     let args = c.args in
     ap (λ (height : ℤ). without_key args.cell height) (to_z-of_z w32 args.height c.ranges.height)
 
-pub without-key-spec : {M : Type 1} → statement M
-without-key-spec = tie.close (tie.spec returns)
+pub without_key_spec : {M : Type 1} → statement M
+without_key_spec = tie.close (tie.spec returns)
