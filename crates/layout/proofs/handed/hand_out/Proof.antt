@@ -13,7 +13,7 @@ lay-records-requires : tie.Need-lay_records-requires
 lay-records-requires c κs =
     let at_count = c.before in
     let a = c.args in
-    rw (at_count.before.Cells-of.ensures, c.count_of-count.ensures)
+    rw (c.cells_of-read.ensures, c.count_of-count.ensures)
     (handed-puttable a.work.now a.cells a.table.now a.handed c.requires)
 
 returns : tie.Need-returns
@@ -27,7 +27,7 @@ returns c =
       filled =
           c.lay_records.ensures
           ∙ ap₂ (λ (n count : ℕ). bytes_of (all_fields_of (records_in a.work.now n count))
-          ++ drop (16 * count) a.table.now) at_count.before.Cells-of.ensures c.count_of-count.ensures
+          ++ drop (16 * count) a.table.now) c.cells_of-read.ensures c.count_of-count.ensures
           ∙ handed-laid a.work.now a.cells a.table.now a.handed
           ∙ ap (λ (z : ℤ). bytes_after z (records_in a.work.now a.cells (count_in a.handed)) a.table.now)
           (sym told);
