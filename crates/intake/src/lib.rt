@@ -1,4 +1,6 @@
 // What the programs `peaks` and `outlines` have in common: the run files that they take, and the line of a refusal.
+#![tactic(auto)]
+
 ghost use Rattle.std.specs.Prelude.{◌≤◌, length};
 
 use layout::ReadBack;
