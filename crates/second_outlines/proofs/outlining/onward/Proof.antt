@@ -1,5 +1,4 @@
 -- `second_outlines::outlining::onward` is safe and ends: the turns that are left become fewer. Assumes nothing.
-use Prim.Native.Nat.{◌-◌}
 use native.Mathlib.Omega.{arith}
 use Rattle.second_outlines.proofs.outlining.onward.Statement.{statement}
 use Rattle.second_outlines.proofs.outlining.onward.Tie as tie

@@ -1,5 +1,4 @@
 -- `second_outlines::text::put_count` is safe and ends: the turns that are left become fewer. Assumes nothing.
-use Prim.Native.Nat.{◌-◌}
 use native.Mathlib.Omega.{arith}
 use Rattle.second_outlines.proofs.text.put_count.Statement.{statement}
 use Rattle.second_outlines.proofs.text.put_count.Tie as tie
