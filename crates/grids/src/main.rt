@@ -14,13 +14,15 @@ mod shortcuts; // shortcuts.rt: the short cuts that go wrong
 mod show; // show.rt: a line for each answer
 mod text; // text.rt: words and numbers on standard output
 
-fn main() {
-    paper::run();
-    shortcuts::run();
-    short::run();
-    filed::run();
-    outlined::run();
-    passes::run();
-    accounts::run();
-    judged::run();
+use std::io;
+
+fn main(rt: HostRuntime) -> io::Result<()> {
+    paper::run(&rt)?;
+    shortcuts::run(&rt)?;
+    short::run(&rt)?;
+    filed::run(&rt)?;
+    outlined::run(&rt)?;
+    passes::run(&rt)?;
+    accounts::run(&rt)?;
+    judged::run(&rt)
 }
