@@ -9,5 +9,5 @@ returns : tie.Need-returns
 unfolding cell_in
 returns c = refl
 
-pub cell-in-spec : {M : Type 1} → statement M
-cell-in-spec = tie.close (tie.spec (λ c. search rules) returns)
+pub cell_in_spec : {M : Type 1} → statement M
+cell_in_spec = tie.close (tie.spec (λ c. search rules) returns)

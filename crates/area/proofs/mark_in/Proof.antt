@@ -8,5 +8,5 @@ returns : tie.Need-returns
 unfolding mark_in
 returns c = refl
 
-pub mark-in-spec : {M : Type 1} → statement M
-mark-in-spec = tie.close (tie.spec returns)
+pub mark_in_spec : {M : Type 1} → statement M
+mark_in_spec = tie.close (tie.spec returns)

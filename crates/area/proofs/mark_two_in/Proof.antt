@@ -8,5 +8,5 @@ returns : tie.Need-returns
 unfolding mark_two_in
 returns c = refl
 
-pub mark-two-in-spec : {M : Type 1} → statement M
-mark-two-in-spec = tie.close (tie.spec returns)
+pub mark_two_in_spec : {M : Type 1} → statement M
+mark_two_in_spec = tie.close (tie.spec returns)
