@@ -1,5 +1,7 @@
 // What the programs `peaks` and `outlines` have in common: how they read, the run files that they take, and the line of
 // a refusal.
+#![tactic(auto)]
+
 ghost use Rattle.std.specs.Prelude.{◌≤◌, length, IfOk};
 
 use layout::ReadBack;

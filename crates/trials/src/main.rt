@@ -3,6 +3,8 @@
 //
 // The lister is asked through its public calls, each that hands out records lent a row of them. What differs is printed
 // by its number, from which all of a grid or run is drawn.
+#![tactic(auto)]
+
 mod accounts; // accounts.rt: both listers on accounts, and the check of changed ones
 mod backwards; // backwards.rt: the list of a grid that is read backwards
 mod batches; // batches.rt: the batches of a run are the list, pass cells apart
