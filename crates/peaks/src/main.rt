@@ -1,4 +1,6 @@
 // The program that lists a run file: it reads one on standard input and lists its heights afresh at threshold 1.
+#![tactic(auto)]
+
 ghost use Rattle.table.specs.Inner.{Standing};
 
 use intake::{INPUT, LINE, MOST_CELLS};
