@@ -2,6 +2,8 @@
 // cell or byte too little, and prints a line for each; then two outlines, the pass cells of document 02, and last
 // accounts of key heights, the tool's own and others. The lister is asked through its public calls, each that hands out
 // records lent a row of them, with the second lister beside it.
+#![tactic(auto)]
+
 mod accounts; // accounts.rt: the accounts of peaks, and cells that have none
 mod filed; // filed.rt: run files that are written and read back
 mod judged; // judged.rt: accounts from elsewhere, and what the check says
@@ -14,13 +16,15 @@ mod shortcuts; // shortcuts.rt: the short cuts that go wrong
 mod show; // show.rt: a line for each answer
 mod text; // text.rt: words and numbers on standard output
 
-fn main() {
-    paper::run();
-    shortcuts::run();
-    short::run();
-    filed::run();
-    outlined::run();
-    passes::run();
-    accounts::run();
-    judged::run();
+use std::io;
+
+fn main(rt: HostRuntime) -> io::Result<()> {
+    paper::run(&rt)?;
+    shortcuts::run(&rt)?;
+    short::run(&rt)?;
+    filed::run(&rt)?;
+    outlined::run(&rt)?;
+    passes::run(&rt)?;
+    accounts::run(&rt)?;
+    judged::run(&rt)
 }

@@ -1,10 +1,13 @@
-// What the programs `peaks` and `outlines` have in common: the run files that they take, and the line of a refusal.
+// What the programs `peaks` and `outlines` have in common: how they read, the run files that they take, and the line of
+// a refusal.
 #![tactic(auto)]
 
-ghost use Rattle.std.specs.Prelude.{◌≤◌, length};
+ghost use Rattle.std.specs.Prelude.{◌≤◌, length, IfOk};
 
 use layout::ReadBack;
 use record::Refusal;
+use std::io;
+use std::io::Read;
 
 // "The program takes at most 65,536 bytes [..] and 4,096 cells".
 pub const MOST_BYTES: usize = 65536;
@@ -16,6 +19,21 @@ pub const INPUT: usize = 65537;
 
 // The bytes of the longest line of a refusal, whose number has two digits.
 pub const LINE: usize = 11;
+
+// Reads until the file is full or the input ends, and answers how many bytes then stand in its front.
+pub fn read_full<R: Read>(input: &mut R, file: &mut [u8]) -> io::Result<usize>
+    ensures { IfOk result (λ n. n ≤ length file.new) }
+{
+    let mut n = 0;
+    while n < file.len() {
+        let more = input.read(&mut file[n..])?;
+        if more == 0 {
+            return Ok(n);
+        }
+        n += more;
+    }
+    Ok(n)
+}
 
 // Whether a file's header asks for more cells than a program takes: 3, in its place in the order, behind 1.
 fn is_large(file: &[u8]) -> bool {

@@ -1,5 +1,7 @@
 // The account of a peak and its check, asked of both listers. Every number of a room for a path or an island holds a
 // mark before the call, so that what the call does not count is seen to stay.
+#![tactic(auto)]
+
 use account::{Accounted, Verdict};
 use second::{BLANK, MAX, WORK, least};
 use second_accounts::{Account, Row, empty, number_at};

@@ -1,5 +1,7 @@
 // The outline, asked of both listers. Every byte of the text room holds a mark before the call, so that what the call
 // does not count is seen to stay.
+#![tactic(auto)]
+
 use lent::answers::{narrow, taken};
 use lent::files::bytes_kept;
 use lent::first::{Told, told_of};

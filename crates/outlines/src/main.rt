@@ -4,9 +4,9 @@ ghost use Rattle.std.specs.Prelude.{◌≤◌, length};
 
 use intake::{INPUT, MOST_CELLS};
 use layout::ReadBack;
-use libc::{STDIN_FILENO, STDOUT_FILENO};
 use outline::Outlined;
 use run::Run;
+use std::io;
 
 // The most levels that an outline has.
 const LEVELS: u32 = 64;
@@ -49,10 +49,10 @@ fn put_answer(text: &mut [u8], file: &[u8]) -> usize
     }
 }
 
-fn main() {
+fn main(rt: HostRuntime) -> io::Result<()> {
     let mut file = [0u8; INPUT];
     let mut text = [0u8; TEXT];
-    let n = io::read_full(STDIN_FILENO, &mut file);
+    let n = intake::read_full(&mut rt.stdin(), &mut file)?;
     let bytes = put_answer(&mut text, &file[0..n]);
-    io::write_all(STDOUT_FILENO, &text[0..bytes]);
+    rt.write_all(&text[0..bytes])
 }

@@ -1,6 +1,8 @@
 // A second lister, for grids of at most 64 cells: brute force from the definitions alone, with no code of the first.
 //
 // It is what the first lister is compared with, so the contracts of its calls say only that they are safe and end.
+#![tactic(auto)]
+
 ghost use Rattle.std.specs.Prelude.{◌≤◌};
 
 pub mod ground; // ground.rt: heights, and the sets of cells that a height divides

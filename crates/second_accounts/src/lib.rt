@@ -1,5 +1,7 @@
 // The account of the second lister and its judge, written as `second` is: from the definitions alone, with no code of
 // the first.
+#![tactic(auto)]
+
 mod accounting; // accounting.rt: the account of a peak's key height, and the judge of any account
 mod rows; // rows.rt: rows of numbers
 mod ways; // ways.rt: ways from cell to touching cell

@@ -1,4 +1,6 @@
 // The outline of the second lister, written as `second` is: from the definitions alone, with no code of the first.
+#![tactic(auto)]
+
 mod outlining; // outlining.rt: the outline of the listed peaks
 mod parents; // parents.rt: parents, and children in the order of their passes
 mod text; // text.rt: words and numbers as bytes of a text

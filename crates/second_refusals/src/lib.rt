@@ -2,6 +2,7 @@
 // section "What comes back" in the order it states.
 //
 // They go by numbers alone: the lengths of what is lent, the work area in numbers of 32 bits, the table in records.
+#![tactic(auto)]
 
 // The greatest number of rows.
 const MAX_ROWS: u32 = 1024;

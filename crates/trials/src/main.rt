@@ -3,6 +3,8 @@
 //
 // The lister is asked through its public calls, each that hands out records lent a row of them. What differs is printed
 // by its number, from which all of a grid or run is drawn.
+#![tactic(auto)]
+
 mod accounts; // accounts.rt: both listers on accounts, and the check of changed ones
 mod backwards; // backwards.rt: the list of a grid that is read backwards
 mod batches; // batches.rt: the batches of a run are the list, pass cells apart
@@ -17,7 +19,7 @@ mod refiled; // refiled.rt: run files written and read back
 
 use crate::random::CELLS;
 use lent_accounts::NO;
-use libc::STDOUT_FILENO;
+use std::io;
 
 // How many made-up grids each relation is tried on.
 const GRIDS: u64 = 300;
@@ -57,30 +59,36 @@ enum Trial {
     Declined,
 }
 
-fn main() {
-    related();
-    compared();
-    accounted();
+fn main(rt: HostRuntime) -> io::Result<()> {
+    related(&rt)?;
+    compared(&rt)?;
+    accounted(&rt)
 }
 
 // Prints on how many made-up grids two answers are related as they must be.
-fn related() {
-    say_of_all(count(Trial::Batches, 0, GRIDS));
-    say(b" runs: batches and list agree, pass cells apart, which only move to earlier ones\n");
-    say_if_some(Trial::Moves, 0, GRIDS);
-    say(b" of these runs a pass cell moves\n");
-    say_of_all(count(Trial::Backwards, 0, GRIDS));
-    say(b" grids without equal heights: the list read backwards agrees\n");
-    say_of_all(count(Trial::Refiled, 0, GRIDS));
-    say(b" lists: written to a file and read back the same\n");
+fn related(rt: &impl Print) -> io::Result<()> {
+    say_of_all(rt, count(rt, Trial::Batches, 0, GRIDS)?)?;
+    say(
+        rt,
+        b" runs: batches and list agree, pass cells apart, which only move to earlier ones\n",
+    )?;
+    say_if_some(rt, Trial::Moves, 0, GRIDS)?;
+    say(rt, b" of these runs a pass cell moves\n")?;
+    say_of_all(rt, count(rt, Trial::Backwards, 0, GRIDS)?)?;
+    say(
+        rt,
+        b" grids without equal heights: the list read backwards agrees\n",
+    )?;
+    say_of_all(rt, count(rt, Trial::Refiled, 0, GRIDS)?)?;
+    say(rt, b" lists: written to a file and read back the same\n")
 }
 
 // Prints whether there is such a one among those from `start` on and below `end`. Without one they would not try it.
-fn say_if_some(trial: Trial, start: u64, end: u64) {
+fn say_if_some(rt: &impl Print, trial: Trial, start: u64, end: u64) -> io::Result<()> {
     if some(trial, start, end) {
-        say(b"in some");
+        say(rt, b"in some")
     } else {
-        say(b"in none");
+        say(rt, b"in none")
     }
 }
 
@@ -95,48 +103,61 @@ fn some(trial: Trial, start: u64, end: u64) -> bool {
 }
 
 // Prints on how many made-up grids, runs and outlines both listers agree.
-fn compared() {
-    say_count(count(Trial::Lists, GRIDS, FIRST_RUN));
-    say(b" grids: both listers agree, refusals too, and other entries stay\n");
-    say_count(count(Trial::Growing, FIRST_RUN, FIRST_OUTLINE));
-    say(b" runs: both listers agree, refusals too, and other entries stay\n");
-    say_count(count(Trial::Outlines, FIRST_OUTLINE, FIRST_ACCOUNT));
-    say(b" outlines: both listers agree, refusals too, and other bytes stay\n");
+fn compared(rt: &impl Print) -> io::Result<()> {
+    say_count(rt, count(rt, Trial::Lists, GRIDS, FIRST_RUN)?)?;
+    say(
+        rt,
+        b" grids: both listers agree, refusals too, and other entries stay\n",
+    )?;
+    say_count(rt, count(rt, Trial::Growing, FIRST_RUN, FIRST_OUTLINE)?)?;
+    say(
+        rt,
+        b" runs: both listers agree, refusals too, and other entries stay\n",
+    )?;
+    say_count(
+        rt,
+        count(rt, Trial::Outlines, FIRST_OUTLINE, FIRST_ACCOUNT)?,
+    )?;
+    say(
+        rt,
+        b" outlines: both listers agree, refusals too, and other bytes stay\n",
+    )
 }
 
 // Prints on how many made-up grids both listers agree on accounts, and that some changed path is accepted, some is not.
-fn accounted() {
-    say_count(count(Trial::Accounts, FIRST_ACCOUNT, END));
+fn accounted(rt: &impl Print) -> io::Result<()> {
+    say_count(rt, count(rt, Trial::Accounts, FIRST_ACCOUNT, END)?)?;
     say(
+        rt,
         b" grids: both listers agree on accounts, the check of changed ones and refusals, and other numbers stay\n",
-    );
-    say_if_some(Trial::Accepted, FIRST_ACCOUNT, END);
-    say(b" of these grids a changed path is accepted\n");
-    say_if_some(Trial::Declined, FIRST_ACCOUNT, END);
-    say(b" of these grids a changed path is not accepted\n");
+    )?;
+    say_if_some(rt, Trial::Accepted, FIRST_ACCOUNT, END)?;
+    say(rt, b" of these grids a changed path is accepted\n")?;
+    say_if_some(rt, Trial::Declined, FIRST_ACCOUNT, END)?;
+    say(rt, b" of these grids a changed path is not accepted\n")
 }
 
 // How many of those from `start` on and below `end` are as they must be.
-fn count(trial: Trial, start: u64, end: u64) -> u64 {
+fn count(rt: &impl Print, trial: Trial, start: u64, end: u64) -> io::Result<u64> {
     let mut agreed = 0;
     for n in start..end {
-        agreed = counted(n, drawn_agrees(trial, n), agreed);
+        agreed = counted(rt, n, drawn_agrees(trial, n), agreed)?;
     }
-    agreed
+    Ok(agreed)
 }
 
 // Counts one more where the answer is yes, and prints the number where it is no.
-fn counted(n: u64, yes: bool, agreed: u64) -> u64 {
+fn counted(rt: &impl Print, n: u64, yes: bool, agreed: u64) -> io::Result<u64> {
     if !yes {
-        say(b"differs: number ");
-        say_count(n);
-        say(b"\n");
-        return agreed;
+        say(rt, b"differs: number ")?;
+        say_count(rt, n)?;
+        say(rt, b"\n")?;
+        return Ok(agreed);
     }
     if agreed < u64::MAX {
-        agreed + 1
+        Ok(agreed + 1)
     } else {
-        agreed
+        Ok(agreed)
     }
 }
 
@@ -183,17 +204,17 @@ fn agrees(
 
 // ---- words and numbers on standard output
 
-fn say(text: &[u8]) {
-    io::write_all(STDOUT_FILENO, text);
+fn say(rt: &impl Print, text: &[u8]) -> io::Result<()> {
+    rt.write_all(text)
 }
 
-fn say_count(n: u64) {
-    io::print_decimal(STDOUT_FILENO, n);
+fn say_count(rt: &impl Print, n: u64) -> io::Result<()> {
+    rt.print(n)
 }
 
 // Writes how many of all agree.
-fn say_of_all(agreed: u64) {
-    say_count(agreed);
-    say(b" of ");
-    say_count(GRIDS);
+fn say_of_all(rt: &impl Print, agreed: u64) -> io::Result<()> {
+    say_count(rt, agreed)?;
+    say(rt, b" of ")?;
+    say_count(rt, GRIDS)
 }

@@ -6,14 +6,14 @@ use borrow.Author.Rules.{rules}
 use Rattle.lent_outlines.proofs.same_bytes.Statement.{statement}
 use Rattle.lent_outlines.proofs.same_bytes.Tie as tie
 
-abbrev invariant-loop : tie.invariant-loop
+abbrev invariant-loop : tie.invariant-loop-i
 invariant-loop a b count i₀ i-end i = i-end ≤ 2048
 
-abbrev decreases-loop : tie.decreases-loop
+abbrev decreases-loop : tie.decreases-loop-i
 decreases-loop a b count i₀ i-end i = i-end - i
 
-pub same-bytes-spec : {M : Type 1} → statement M
-same-bytes-spec =
+pub same_bytes_spec : {M : Type 1} → statement M
+same_bytes_spec =
     tie.close
     (tie.spec invariant-loop decreases-loop (λ c κs. tt) (λ c. search rules) (λ c. search rules) (λ c. search rules) (λ c. tt)
     (λ c. omega arith) (λ c. omega arith) (λ c. search rules) (λ c. tt))

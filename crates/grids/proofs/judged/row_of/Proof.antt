@@ -4,14 +4,14 @@ use native.Mathlib.Omega.{arith}
 use Rattle.grids.proofs.judged.row_of.Statement.{statement}
 use Rattle.grids.proofs.judged.row_of.Tie as tie
 
-abbrev invariant-loop : tie.invariant-loop
+abbrev invariant-loop : tie.invariant-loop-i
 invariant-loop numbers row₀ i₀ i-end row i = Unit {0}
 
-abbrev decreases-loop : tie.decreases-loop
+abbrev decreases-loop : tie.decreases-loop-i
 decreases-loop numbers row₀ i₀ i-end row i = i-end - i
 
-pub row-of-spec : {M : Type 1} → statement M
-row-of-spec =
+pub row_of_spec : {M : Type 1} → statement M
+row_of_spec =
     tie.close
     (tie.spec invariant-loop decreases-loop (λ c κs. tt) (λ c. tt) (λ c. omega arith) (λ c. omega arith) (λ c κs. tt)
     (λ c. omega arith) (λ c. omega arith) (λ c. tt) (λ c. tt))

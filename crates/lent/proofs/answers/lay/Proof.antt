@@ -9,14 +9,14 @@ use borrow.Author.Rules.{rules}
 use Rattle.lent.proofs.answers.lay.Statement.{statement}
 use Rattle.lent.proofs.answers.lay.Tie as tie
 
-abbrev invariant-loop : tie.invariant-loop
+abbrev invariant-loop : tie.invariant-loop-cell
 invariant-loop heights before grid₀ cell₀ grid cell = length grid ≡ 64
 
-abbrev decreases-loop : tie.decreases-loop
+abbrev decreases-loop : tie.decreases-loop-cell
 decreases-loop heights before grid₀ cell₀ grid cell = 64 - cell
 
-pub lay-spec : {M : Type 1} → statement M
-lay-spec =
+pub lay_spec : {M : Type 1} → statement M
+lay_spec =
     tie.close
     (tie.spec invariant-loop decreases-loop (λ c. search rules) (λ c κs. tt) (λ c. omega arith) (λ c. omega arith)
     (λ c. omega arith) (λ c. omega arith) (λ c. search rules) (λ c. search rules))

@@ -4,14 +4,14 @@ use native.Mathlib.Omega.{arith}
 use Rattle.lent.proofs.files.bytes_kept.Statement.{statement}
 use Rattle.lent.proofs.files.bytes_kept.Tie as tie
 
-abbrev invariant-loop : tie.invariant-loop
+abbrev invariant-loop : tie.invariant-loop-i
 invariant-loop room start i₀ i-end i = Unit {0}
 
-abbrev decreases-loop : tie.decreases-loop
+abbrev decreases-loop : tie.decreases-loop-i
 decreases-loop room start i₀ i-end i = i-end - i
 
-pub bytes-kept-spec : {M : Type 1} → statement M
-bytes-kept-spec =
+pub bytes_kept_spec : {M : Type 1} → statement M
+bytes_kept_spec =
     tie.close
     (tie.spec invariant-loop decreases-loop (λ c. tt) (λ c. omega arith) (λ c. tt) (λ c. omega arith) (λ c. omega arith) (λ c. tt)
     (λ c. tt))

@@ -4,10 +4,10 @@ use native.Mathlib.Omega.{arith}
 use Rattle.lent.proofs.records.alike.Statement.{statement}
 use Rattle.lent.proofs.records.alike.Tie as tie
 
-abbrev invariant-loop : tie.invariant-loop
+abbrev invariant-loop : tie.invariant-loop-i
 invariant-loop whole count parts total numbers i₀ i = Unit {0}
 
-abbrev decreases-loop : tie.decreases-loop
+abbrev decreases-loop : tie.decreases-loop-i
 decreases-loop whole count parts total numbers i₀ i = count - i
 
 pub alike_spec : {M : Type 1} → statement M

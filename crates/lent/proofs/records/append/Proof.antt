@@ -4,13 +4,13 @@ use native.Mathlib.Omega.{arith}
 use Rattle.lent.proofs.records.append.Statement.{statement}
 use Rattle.lent.proofs.records.append.Tie as tie
 
-abbrev invariant-loop : tie.invariant-loop
+abbrev invariant-loop : tie.invariant-loop-i
 invariant-loop batch count parts₀ total next₀ i₀ parts next i = Unit {0}
 
-abbrev decreases-loop : tie.decreases-loop
+abbrev decreases-loop : tie.decreases-loop-i
 decreases-loop batch count parts₀ total next₀ i₀ parts next i = count - i
 
-pub append-spec : {M : Type 1} → statement M
-append-spec =
+pub append_spec : {M : Type 1} → statement M
+append_spec =
     tie.close
     (tie.spec invariant-loop decreases-loop (λ c. tt) (λ c κs. tt) (λ c. omega arith) (λ c. omega arith) (λ c. tt) (λ c. tt))

@@ -4,14 +4,14 @@ use native.Mathlib.Omega.{arith}
 use Rattle.lent.proofs.records.equal.Statement.{statement}
 use Rattle.lent.proofs.records.equal.Tie as tie
 
-abbrev invariant-loop : tie.invariant-loop
+abbrev invariant-loop : tie.invariant-loop-place
 invariant-loop a i b j numbers place₀ place = Unit {0}
 
-abbrev decreases-loop : tie.decreases-loop
+abbrev decreases-loop : tie.decreases-loop-place
 decreases-loop a i b j numbers place₀ place = numbers - place
 
-pub equal-spec : {M : Type 1} → statement M
-equal-spec =
+pub equal_spec : {M : Type 1} → statement M
+equal_spec =
     tie.close
     (tie.spec invariant-loop decreases-loop (λ c. tt) (λ c κs. tt) (λ c κs. tt) (λ c. tt) (λ c. omega arith)
     (λ c. omega arith) (λ c. tt) (λ c. tt))

@@ -4,10 +4,10 @@ use native.Mathlib.Omega.{arith}
 use Rattle.lent.proofs.records.same.Statement.{statement}
 use Rattle.lent.proofs.records.same.Tie as tie
 
-abbrev invariant-loop : tie.invariant-loop
+abbrev invariant-loop : tie.invariant-loop-i
 invariant-loop a count b total i₀ i = Unit {0}
 
-abbrev decreases-loop : tie.decreases-loop
+abbrev decreases-loop : tie.decreases-loop-i
 decreases-loop a count b total i₀ i = count - i
 
 pub same_spec : {M : Type 1} → statement M

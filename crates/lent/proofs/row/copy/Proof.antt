@@ -4,10 +4,10 @@ use native.Mathlib.Omega.{arith}
 use Rattle.lent.proofs.row.copy.Statement.{statement}
 use Rattle.lent.proofs.row.copy.Tie as tie
 
-abbrev invariant-loop : tie.invariant-loop
+abbrev invariant-loop : tie.invariant-loop-i
 invariant-loop row count out₀ i₀ out i = Unit {0}
 
-abbrev decreases-loop : tie.decreases-loop
+abbrev decreases-loop : tie.decreases-loop-i
 decreases-loop row count out₀ i₀ out i = count - i
 
 pub copy_spec : {M : Type 1} → statement M

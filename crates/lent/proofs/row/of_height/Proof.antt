@@ -4,5 +4,5 @@ use Rattle.second.proofs.Signed.{widened}
 use Rattle.lent.proofs.row.of_height.Statement.{statement}
 use Rattle.lent.proofs.row.of_height.Tie as tie
 
-pub of-height-spec : {M : Type 1} → statement M
-of-height-spec = tie.close (tie.spec (λ c. widened c.ranges.height) (λ c. tt))
+pub of_height_spec : {M : Type 1} → statement M
+of_height_spec = tie.close (tie.spec (λ c. widened c.ranges.height) (λ c. tt))

@@ -4,14 +4,14 @@ use native.Mathlib.Omega.{arith}
 use Rattle.lent.proofs.same.same_rows.Statement.{statement}
 use Rattle.lent.proofs.same.same_rows.Tie as tie
 
-abbrev invariant-loop : tie.invariant-loop
+abbrev invariant-loop : tie.invariant-loop-i
 invariant-loop a b i₀ i = Unit {0}
 
-abbrev decreases-loop : tie.decreases-loop
+abbrev decreases-loop : tie.decreases-loop-i
 decreases-loop a b i₀ i = 64 - i
 
-pub same-rows-spec : {M : Type 1} → statement M
-same-rows-spec =
+pub same_rows_spec : {M : Type 1} → statement M
+same_rows_spec =
     tie.close
     (tie.spec invariant-loop decreases-loop (λ c. tt) (λ c κs. tt) (λ c κs. tt) (λ c κs. tt) (λ c. tt) (λ c. omega arith)
     (λ c. omega arith) (λ c. tt) (λ c. tt))

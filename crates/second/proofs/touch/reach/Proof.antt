@@ -10,8 +10,8 @@ invariant-loop near allowed from set₀ counter₀ set counter = Unit {0}
 abbrev decreases-loop : tie.decreases-loop
 decreases-loop near allowed from set₀ counter₀ set counter = 64 - counter
 
-pub reach-spec : {M : Type 1} → statement M
-reach-spec =
+pub reach_spec : {M : Type 1} → statement M
+reach_spec =
     tie.close
     (tie.spec invariant-loop decreases-loop (λ c. tt) (λ c κs. tt) (λ c. tt) (λ c. omega arith) (λ c. omega arith) (λ c. tt)
     (λ c. tt))

@@ -4,14 +4,14 @@ use native.Mathlib.Omega.{arith}
 use Rattle.second_accounts.proofs.rows.in_order.Statement.{statement}
 use Rattle.second_accounts.proofs.rows.in_order.Tie as tie
 
-abbrev invariant-loop : tie.invariant-loop
+abbrev invariant-loop : tie.invariant-loop-cell
 invariant-loop set row₀ cell₀ row cell = Unit {0}
 
-abbrev decreases-loop : tie.decreases-loop
+abbrev decreases-loop : tie.decreases-loop-cell
 decreases-loop set row₀ cell₀ row cell = 64 - cell
 
-pub in-order-spec : {M : Type 1} → statement M
-in-order-spec =
+pub in_order_spec : {M : Type 1} → statement M
+in_order_spec =
     tie.close
     (tie.spec invariant-loop decreases-loop (λ c κs. tt) (λ c. tt) (λ c κs. tt) (λ c. omega arith) (λ c κs. tt) (λ c. omega arith)
     (λ c. omega arith) (λ c. tt) (λ c. tt))

@@ -10,8 +10,8 @@ invariant-loop near allowed from goal row₀ cell₀ counter₀ row cell counter
 abbrev decreases-loop : tie.decreases-loop
 decreases-loop near allowed from goal row₀ cell₀ counter₀ row cell counter = 64 - counter
 
-pub first-way-spec : {M : Type 1} → statement M
-first-way-spec =
+pub first_way_spec : {M : Type 1} → statement M
+first_way_spec =
     tie.close
     (tie.spec invariant-loop decreases-loop (λ c κs. tt) (λ c. tt) (λ c κs. tt) (λ c κs. tt) (λ c. tt) (λ c κs. tt) (λ c κs. tt)
     (λ c κs. tt) (λ c κs. tt) (λ c. omega arith) (λ c. omega arith) (λ c. omega arith) (λ c. tt) (λ c. tt))

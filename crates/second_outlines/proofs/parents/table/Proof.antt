@@ -4,14 +4,14 @@ use native.Mathlib.Omega.{arith}
 use Rattle.second_outlines.proofs.parents.table.Statement.{statement}
 use Rattle.second_outlines.proofs.parents.table.Tie as tie
 
-abbrev invariant-loop : tie.invariant-loop
+abbrev invariant-loop : tie.invariant-loop-cell
 invariant-loop near heights summits links₀ cell₀ links cell = Unit {0}
 
-abbrev decreases-loop : tie.decreases-loop
+abbrev decreases-loop : tie.decreases-loop-cell
 decreases-loop near heights summits links₀ cell₀ links cell = 64 - cell
 
-pub table-spec : {M : Type 1} → statement M
-table-spec =
+pub table_spec : {M : Type 1} → statement M
+table_spec =
     tie.close
     (tie.spec invariant-loop decreases-loop (λ c κs. tt) (λ c. tt) (λ c κs. tt) (λ c. omega arith) (λ c. omega arith)
     (λ c. omega arith) (λ c. omega arith) (λ c. tt) (λ c. tt))

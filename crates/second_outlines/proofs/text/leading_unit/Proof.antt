@@ -5,13 +5,13 @@ use native.Mathlib.Omega.{arith}
 use Rattle.second_outlines.proofs.text.leading_unit.Statement.{statement}
 use Rattle.second_outlines.proofs.text.leading_unit.Tie as tie
 
-abbrev invariant-loop : tie.invariant-loop
+abbrev invariant-loop : tie.invariant-loop-unit
 invariant-loop n unit₀ unit = 0 < unit
 
-abbrev decreases-loop : tie.decreases-loop
+abbrev decreases-loop : tie.decreases-loop-unit
 decreases-loop n unit₀ unit = n - unit
 
-pub leading-unit-spec : {M : Type 1} → statement M
-leading-unit-spec =
+pub leading_unit_spec : {M : Type 1} → statement M
+leading_unit_spec =
     tie.close
     (tie.spec invariant-loop decreases-loop (λ c. omega arith) (λ c. omega arith) (λ c. omega arith) (λ c. omega arith) (λ c. tt))

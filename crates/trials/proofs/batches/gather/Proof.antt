@@ -5,14 +5,14 @@ use Rattle.std.proofs.Common.{◌-◌, ◌≤◌, length, arith}
 use Rattle.trials.proofs.batches.gather.Statement.{statement}
 use Rattle.trials.proofs.batches.gather.Tie as tie
 
-abbrev invariant-loop : tie.invariant-loop
+abbrev invariant-loop : tie.invariant-loop-end
 invariant-loop rows heights threshold parts₀ end₀ total₀ parts end total = end ≤ length heights
 
-abbrev decreases-loop : tie.decreases-loop
+abbrev decreases-loop : tie.decreases-loop-end
 decreases-loop rows heights threshold parts₀ end₀ total₀ parts end total = length heights - end
 
-pub gather-spec : {M : Type 1} → statement M
-gather-spec =
+pub gather_spec : {M : Type 1} → statement M
+gather_spec =
     tie.close
     (tie.spec invariant-loop decreases-loop (λ c. tt) (λ c. omega arith) (λ c. omega arith) (λ c. omega arith)
     (λ c. omega arith) (λ c. omega arith) (λ c. omega arith) (λ c κs. tt) (λ c. omega arith) (λ c. omega arith)

@@ -4,11 +4,11 @@ use Rattle.std.proofs.Common.{sym, length-take-le, rules}
 use Rattle.trials.proofs.both.end_agrees.Statement.{statement}
 use Rattle.trials.proofs.both.end_agrees.Tie as tie
 
-slice-aggregate-end : tie.Need-slice-aggregate-end
-slice-aggregate-end c = sym (length-take-le _ _ c.before.if1.false)
+slice-aggregate-end : tie.Need-slice_bounds-end-end
+slice-aggregate-end c = sym (length-take-le _ _ c.if-bytes-gt-WORK.false)
 
-pub end-agrees-spec : {M : Type 1} → statement M
-end-agrees-spec =
+pub end_agrees_spec : {M : Type 1} → statement M
+end_agrees_spec =
     tie.close
     (tie.spec (λ c. tt) (λ c. search rules) slice-aggregate-end (λ c κs. tt)
     (λ c κs. tt) (λ c κs. tt) (λ c κs. tt) (λ c κs. tt)

@@ -3,14 +3,14 @@ use Rattle.std.proofs.Common.{◌-◌, arith}
 use Rattle.trials.proofs.changed.wandering.Statement.{statement}
 use Rattle.trials.proofs.changed.wandering.Tie as tie
 
-abbrev invariant-loop : tie.invariant-loop
+abbrev invariant-loop : tie.invariant-loop-i
 invariant-loop path next₀ i₀ i-end next i = Unit {0}
 
-abbrev decreases-loop : tie.decreases-loop
+abbrev decreases-loop : tie.decreases-loop-i
 decreases-loop path next₀ i₀ i-end next i = i-end - i
 
-pub wandering-spec : {M : Type 1} → statement M
-wandering-spec =
+pub wandering_spec : {M : Type 1} → statement M
+wandering_spec =
     tie.close
     (tie.spec invariant-loop decreases-loop (λ c κs. tt) (λ c κs. tt) (λ c κs. tt) (λ c κs. tt) (λ c κs. tt) (λ c. tt) (λ c κs. tt)
     (λ c κs. tt) (λ c. omega arith) (λ c. omega arith) (λ c. tt) (λ c. tt))

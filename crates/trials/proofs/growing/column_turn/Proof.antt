@@ -4,8 +4,8 @@ use Rattle.std.proofs.Common.{rules}
 use Rattle.trials.proofs.growing.column_turn.Statement.{statement}
 use Rattle.trials.proofs.growing.column_turn.Tie as tie
 
-pub column-turn-spec : {M : Type 1} → statement M
-column-turn-spec =
+pub column_turn_spec : {M : Type 1} → statement M
+column_turn_spec =
     tie.close
     (tie.spec (λ c κs. tt) (λ c κs. tt) (λ c κs. tt) (λ c κs. tt) (λ c. search rules) (λ c. tt) (λ c κs. tt)
     (λ c. search rules) (λ c. tt))

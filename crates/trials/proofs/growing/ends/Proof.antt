@@ -3,8 +3,8 @@
 use Rattle.trials.proofs.growing.ends.Statement.{statement}
 use Rattle.trials.proofs.growing.ends.Tie as tie
 
-pub ends-spec : {M : Type 1} → statement M
-ends-spec =
+pub ends_spec : {M : Type 1} → statement M
+ends_spec =
     tie.close
     (tie.spec (λ c κs. tt) (λ c κs. tt) (λ c κs. tt) (λ c κs. tt) (λ c κs. tt) (λ c κs. tt) (λ c κs. tt)
     (λ c. tt) (λ c. tt))

@@ -4,8 +4,8 @@ use Rattle.std.proofs.Common.{rules}
 use Rattle.trials.proofs.growing.refusals_agree.Statement.{statement}
 use Rattle.trials.proofs.growing.refusals_agree.Tie as tie
 
-pub refusals-agree-spec : {M : Type 1} → statement M
-refusals-agree-spec =
+pub refusals_agree_spec : {M : Type 1} → statement M
+refusals_agree_spec =
     tie.close
     (tie.spec (λ c κs. tt) (λ c κs. tt) (λ c κs. tt) (λ c. search rules) (λ c. tt) (λ c κs. tt) (λ c κs. tt)
     (λ c κs. tt) (λ c. search rules) (λ c. tt) (λ c κs. tt) (λ c κs. tt) (λ c κs. tt) (λ c. search rules)

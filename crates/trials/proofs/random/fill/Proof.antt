@@ -3,10 +3,10 @@ use Rattle.std.proofs.Common.{◌-◌, arith}
 use Rattle.trials.proofs.random.fill.Statement.{statement}
 use Rattle.trials.proofs.random.fill.Tie as tie
 
-abbrev invariant-loop : tie.invariant-loop
+abbrev invariant-loop : tie.invariant-loop-cell
 invariant-loop n heights₀ cell₀ heights cell = Unit {0}
 
-abbrev decreases-loop : tie.decreases-loop
+abbrev decreases-loop : tie.decreases-loop-cell
 decreases-loop n heights₀ cell₀ heights cell = 40 - cell
 
 pub fill_spec : {M : Type 1} → statement M
