@@ -13,7 +13,7 @@
 #                       another processor g++-x86-64-linux-gnu, qemu-user and g++
 #
 # The archives that rt writes, crates/NAME/out/libNAME.a, are for x86-64. There the programs run directly; on another
-# processor a cross compiler builds them and qemu's user emulation runs them. Everything that is built goes to target/cpp.
+# processor a cross compiler builds them and qemu's user emulation runs them. All that is built goes to target/cpp.
 #
 #     CPP_MACHINE   the processor to choose by, unless it is to be this machine's
 #     CPP_LIBRARY   the archive of the C entry, unless it is to be the one that rt writes

@@ -1,5 +1,5 @@
 #!/usr/bin/env python3
-"""The gate: what needs no proof, `rt ci`, the place at which each must-fail edit is refused, then what runs on proved code.
+"""The gate: what needs no proof, `rt ci` and the place at which each must-fail edit is refused, what runs on proved code.
 
 An edit's header has one line `# Refused at FILE: NAME`: the first error of the prover stands in that file of the crate,
 in the lemma, answer or definition of that name. Where the prover makes the proof by itself, the file is that of the
@@ -27,7 +27,7 @@ AFTER = [[*MAKE, "-j3", "-Oline", "cpp-test", "built-peaks", "built-outlines"]]
 HEADER = re.compile(r"^# Refused at ((?:src|specs|proofs)/\S+): (\S+)$", re.M)
 TRIED = re.compile(r"^(?:rt: )?must-fail (\w+)/(\S+)\.edit: (.*)$")
 REFUSED = "refused, as it must be"
-PLACE = re.compile(r": (?:note: )?(?:\./)?((?:src|specs|proofs)/\S+?):(\d+):\d+: (?:error(?:\[[\w-]+\])?: )?(?:`([^`]+)`)?")
+PLACE = re.compile(r": (?:note: )?(?:\./)?((?:src|specs|proofs)/\S+?):(\d+):\d+: (?:error\S*: )?(?:`([^`]+)`)?")
 FUNCTION = re.compile(r'(?:pub(?:\([^)]*\))? )?(?:const )?(?:unsafe )?(?:extern "C" )?fn (\w+)')
 
 
