@@ -11,14 +11,14 @@ test:
 	@echo "test: pages, tools, all proofs and must-fail edits, C++ tests, the programs' files" >&2
 	@.ci/run
 
-# rt runs each program on the file stdin of its crate. Of what rt says, the lines on each crate are shown, and all of it
-# if something is not proved. The executables go to target/bin.
+# rt runs each program on the file stdin of its crate. Of what rt says, a line on each crate that it checks is shown, and
+# all of it if something is not proved. The executables go to target/bin.
 run:
 	@mkdir -p target/bin
 	@for program in peaks outlines; do \
 	    echo "run: proving $$program and each crate below it that changed; some minutes the first time" >&2; \
 	    { (cd crates/$$program && rt run < stdin 2>&1 > ../../target/$$program.stdout); echo $$? > target/run.status; } \
-	        | tee target/run.log | sed -u -n 's/^rt: /run: /p' >&2; \
+	        | tee target/run.log | sed -u -n 's/^crate \([a-z_]*\): .*/run: \1 is checked/p' >&2; \
 	    test "$$(cat target/run.status)" = 0 || { cat target/run.log >&2; exit 1; }; \
 	    cp crates/$$program/out/$$program target/bin/; \
 	done
