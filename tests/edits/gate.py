@@ -28,18 +28,15 @@ HEADER = re.compile(r"^# Refused at ((?:src|specs|proofs)/\S+): (\S+)$", re.M)
 TRIED = re.compile(r"^(?:rt: )?must-fail (\w+)/(\S+)\.edit: (.*)$")
 REFUSED = "refused, as it must be"
 PLACE = re.compile(r": (?:note: )?(?:\./)?((?:src|specs|proofs)/\S+?):(\d+):\d+: (?:error\S*: )?(?:`([^`]+)`)?")
-FUNCTION = re.compile(r'(?:pub(?:\([^)]*\))? )?(?:const )?(?:unsafe )?(?:extern "C" )?fn (\w+)')
+FUNCTION = re.compile(r'\s*(?:pub(?:\([^)]*\))? )?(?:const )?(?:unsafe )?(?:extern "C" )?fn (\w+)')
 
 
 def function_at(path, number):
-    """The name of the function of a file of code that holds the line of that number, or begins below its attributes."""
-    name = None
-    for at, line in enumerate(path.read_text().splitlines(), 1):
-        if at > number and not line.lstrip().startswith("#["):
-            break
-        found = FUNCTION.match(line.lstrip())
-        name = found[1] if found else name
-    return name
+    """The name of the function of a file of code that holds the line of that number, or begins with it by an attribute."""
+    lines = path.read_text().splitlines()
+    is_head = lines[number - 1].lstrip().startswith("#[") if number <= len(lines) else False
+    names = [found[1] for line in (lines[number:] if is_head else lines[:number]) if (found := FUNCTION.match(line))]
+    return (names[0] if is_head else names[-1]) if names else None
 
 
 def refused_at(crate, said):
