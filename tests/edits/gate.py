@@ -1,5 +1,5 @@
 #!/usr/bin/env python3
-"""The gate: what needs no proof, `rt ci` and the place at which each must-fail edit is refused, what runs on proved code.
+"""The gate: what needs no proof; `rt ci`, and where each must-fail edit is refused; what runs on proved code.
 
 An edit's header has one line `# Refused at FILE: NAME`: the first error of the prover stands in that file of the crate,
 in the lemma, answer or definition of that name. Where the prover makes the proof by itself, the file is that of the
@@ -32,11 +32,11 @@ FUNCTION = re.compile(r'\s*(?:pub(?:\([^)]*\))? )?(?:const )?(?:unsafe )?(?:exte
 
 
 def function_at(path, number):
-    """The name of the function of a file of code that holds the line of that number, or begins with it by an attribute."""
+    """The name of the function that a line of a file of code is in, or that begins with that line, an attribute."""
     lines = path.read_text().splitlines()
-    is_head = lines[number - 1].lstrip().startswith("#[") if number <= len(lines) else False
-    names = [found[1] for line in (lines[number:] if is_head else lines[:number]) if (found := FUNCTION.match(line))]
-    return (names[0] if is_head else names[-1]) if names else None
+    is_head = lines[number - 1].lstrip().startswith("#[")
+    near = lines[number:] if is_head else lines[number - 1 :: -1]
+    return next((found[1] for line in near if (found := FUNCTION.match(line))), None)
 
 
 def refused_at(crate, said):
