@@ -12,16 +12,16 @@
 #     cpp-tools         installs what cpp-test and cpp-bench need and the machine lacks, by apt-get: on x86-64 g++; on
 #                       another processor g++-x86-64-linux-gnu, qemu-user and g++
 #
-# The archive that rt writes is for x86-64. There the programs run directly; on another processor a cross compiler
-# builds them and qemu's user emulation runs them. Everything that is built goes to target/cpp.
+# The archives that rt writes, crates/NAME/out/libNAME.a, are for x86-64. There the programs run directly; on another
+# processor a cross compiler builds them and qemu's user emulation runs them. All that is built goes to target/cpp.
 #
 #     CPP_MACHINE   the processor to choose by, unless it is to be this machine's
 #     CPP_LIBRARY   the archive of the C entry, unless it is to be the one that rt writes
 #     CPP_METERS    the folder of the archives of the other calls that are timed, libmeter_*.a, likewise
 
 CPP_MACHINE ?= $(shell uname -m)
-CPP_LIBRARY ?= target/staticlib/libsuite.a
-CPP_METERS ?= target/staticlib
+CPP_LIBRARY ?= crates/suite/out/libsuite.a
+CPP_METERS ?=
 CPP_OUT := target/cpp
 CPP_FLAGS := -std=c++17 -O2 -Wall -Wextra -Wpedantic -Iinclude -Ibench -Itests/suite
 CPP_REFERENCE := bench/places.hpp bench/reference.hpp bench/sweep.hpp
@@ -145,15 +145,20 @@ $(CPP_OUT)/libcounter.so: bench/counter.cpp bench/instructions.hpp | $(CPP_OUT)
 	@$(CXX) $(CPP_FLAGS) -fPIC -shared $< -o $@
 
 # Copies that change only when the archives do: rt writes an archive each time.
-CPP_COPIES := $(patsubst %,$(CPP_OUT)/libmeter_%.a,runs files accounts)
+CPP_COPIES := $(patsubst %,$(CPP_OUT)/lib%.a,suite meter_runs meter_files meter_accounts)
 $(CPP_OUT)/libsuite.a: $(CPP_LIBRARY)
-$(CPP_COPIES): $(CPP_OUT)/%: $(CPP_METERS)/%
-$(CPP_OUT)/libsuite.a $(CPP_COPIES): | $(CPP_OUT)
+$(CPP_OUT)/libmeter_runs.a: $(or $(CPP_METERS),crates/meter_runs/out)/libmeter_runs.a
+$(CPP_OUT)/libmeter_files.a: $(or $(CPP_METERS),crates/meter_files/out)/libmeter_files.a
+$(CPP_OUT)/libmeter_accounts.a: $(or $(CPP_METERS),crates/meter_accounts/out)/libmeter_accounts.a
+$(CPP_COPIES): | $(CPP_OUT)
 	@cmp -s $< $@ || cp $< $@
 
-target/staticlib/lib%.a: cpp-always | $(CPP_OUT)
-	@echo "archive: proving $* and each crate below it that changed, for $@; two to three minutes the first time" >&2
-	@$(PROVE) staticlib $* > $(CPP_OUT)/staticlib-$*.log 2>&1 || { cat $(CPP_OUT)/staticlib-$*.log >&2; exit 1; }
+CPP_ARCHIVES := $(foreach name,suite meter_runs meter_files meter_accounts,crates/$(name)/out/lib$(name).a)
+CPP_CRATE = $(patsubst lib%.a,%,$(@F))
+$(CPP_ARCHIVES): cpp-always | $(CPP_OUT)
+	@echo "archive: proving $(CPP_CRATE) and each crate below it that changed, for $@; some minutes the first time" >&2
+	@(cd crates/$(CPP_CRATE) && rt lib) > $(CPP_OUT)/lib-$(CPP_CRATE).log 2>&1 \
+	    || { cat $(CPP_OUT)/lib-$(CPP_CRATE).log >&2; exit 1; }
 
 $(CPP_OUT):
 	@mkdir -p $@

@@ -8,9 +8,9 @@
  * that touches the island and from which cells at or above the key height, outside the island, lead to ground that
  * outranks it. docs/RULES.md has the rules word by word, docs/PROMISES.md what is proved.
  *
- * C99 and C++, on x86-64 Linux. `rt staticlib suite` writes the archive to link:
+ * C99 and C++, on x86-64 Linux. `rt lib` in crates/suite writes the archive to link:
  *
- *     g++ -std=c++17 -Iinclude PROGRAM.cpp target/staticlib/libsuite.a
+ *     g++ -std=c++17 -Iinclude PROGRAM.cpp crates/suite/out/libsuite.a
  *
  * All numbers in lent memory are 32 bits, little-endian, and need no alignment. So on a little-endian machine, as
  * x86-64 is, an array of int32_t is passed as its bytes, without a copy, and the table may be an array of structs:

@@ -7,8 +7,8 @@
 // The 5 drops to the 4 beside it before it meets the higher 7; the 7 must go down to the 2 to reach the 9; nothing
 // outranks the 9, so it has no key height.
 //
-//     rt staticlib suite
-//     g++ -std=c++17 -Iinclude examples/suite/example.cpp target/staticlib/libsuite.a -o example
+//     (cd crates/suite && rt lib)
+//     g++ -std=c++17 -Iinclude examples/suite/example.cpp crates/suite/out/libsuite.a -o example
 //
 // It puts numbers into bytes and takes them out one by one, which works on any machine. On a little-endian one the
 // vector of heights could be lent as its bytes, as mayexoton.h shows.

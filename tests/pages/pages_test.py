@@ -25,11 +25,13 @@ for program in ("peaks", "outlines"):
 
 # crates.txt reads from the bottom up, but for the crates of the kit. Each crate has its row in the README and in
 # CONTRIBUTING.md, each row its crate.
+lines = [line.split("#")[0].split(":") for line in page("crates.txt").splitlines()]
+named = {name.split()[0] for name, _ in lines}
 below = {}
-for line in page("crates.txt").splitlines():
-    name, needs = line.split("#")[0].split(":")
-    needs = set(needs.split()) - {"io", "libc"}
-    assert needs <= set(below), line
+for kind, needs in lines:
+    name = kind.split()[0]
+    needs = set(needs.split()) & named
+    assert needs <= set(below), kind
     below[name] = needs.union(*(below[need] for need in needs))
 for table in ("README.md", "CONTRIBUTING.md"):
     assert list(below) == re.findall(r"^\| `(\w+)` \|", page(table), re.M), table
@@ -72,13 +74,16 @@ specs = {path.parts[-3]: "" for path in ROOT.glob("crates/*/specs/Lib.antt")}
 for path in ROOT.glob("crates/*/specs/*.antt"):
     specs[path.parts[-3]] += path.read_text()
 code = {name: "".join(path.read_text() for path in ROOT.glob(f"crates/{name}/src/*.rt")) for name in below}
+defined = "".join([*specs.values(), *code.values()])
 claims = "".join(path.read_text() for path in ROOT.glob("crates/*/specs/Claims.antt"))
 for name in ("docs/PROMISES.md", "docs/MAP.md"):
     quoted = set(re.findall(r"`([^`]+)`", page(name)))
     named = {word[: -len(".edit")] for word in quoted if word.endswith(".edit")}
     assert named and named <= edits, named - edits
-    named = {word for word in quoted if re.fullmatch(r"[a-z]+(?:-[a-z]+)+", word)}
-    missing = {claim for claim in named if f"pub {claim} :" not in claims}
+    # A claim; or, in snake case, a definition or a function.
+    named = {word for word in quoted if re.fullmatch(r"[a-z]+(?:[-_][a-z]+)+", word)} - set(below)
+    missing = {word for word in named if f"pub {word} :" not in claims}
+    missing = {word for word in missing if "-" in word or not re.search(rf"\b(?:pub|fn) {word}\b", defined)}
     assert named and not missing, missing
     named = {tuple(word.split("::")) for word in quoted if re.fullmatch(r"[a-z]+::[a-z_]+", word)}
     missing = {(crate, call) for crate, call in named if f"pub fn {call}(" not in code[crate]}

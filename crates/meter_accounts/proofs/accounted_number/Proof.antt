@@ -14,22 +14,21 @@ use Rattle.layout.proofs.HandedBytes.{count-read}
 use Rattle.meter_accounts.proofs.accounted_number.Statement.{statement}
 use Rattle.meter_accounts.proofs.accounted_number.Tie as tie
 
-returns : tie.Need-returns
+returns : tie.Need-returns-in-Given
 returns c =
-    let at-known = c.before in
-    let account = at-known.before.accounted.given in
+    let account = c.in-Given in
     count-read c.level.result (omega arith) ∙ ap pos c.level.ensures
     ∙ ap (λ (z : ℤ). pos (level_of z))
-    (to_z-of_z w32 account.0.0 (record { sfits = at-known.known-told.given.0.1 }))
-    ∙ sym (ap (λ (a : Accounted). signed_told (accounted_told a)) account.1)
+    (to_z-of_z w32 account.key (record { sfits = account.known_told-1-own.given.0.1 }))
+    ∙ sym (ap (λ (a : Accounted). signed_told (accounted_told a)) account.is)
 
-returns-2 : tie.Need-returns-2
+returns-2 : tie.Need-returns-in-Refused
 returns-2 c =
-    to_z-of_z w64 _ (record { sfits = c.refused-number.type-inv }) ∙ c.refused-number.ensures
-    ∙ sym (ap (λ (a : Accounted). signed_told (accounted_told a)) c.before.before.accounted2.given.1)
+    to_z-of_z w64 _ (record { sfits = c.refused_number.type_inv }) ∙ c.refused_number.ensures
+    ∙ sym (ap (λ (a : Accounted). signed_told (accounted_told a)) c.in-Refused.is)
 
-pub accounted-number-spec : {M : Type 1} → statement M
-accounted-number-spec =
+pub accounted_number_spec : {M : Type 1} → statement M
+accounted_number_spec =
     tie.close
     (tie.spec (λ c. search rules) (λ c κs. search rules) (λ c. search rules) (λ c. search rules) (λ c κs. search rules)
     returns returns-2)

@@ -9,15 +9,14 @@ use Rattle.meter_accounts.proofs.meter_account.Tie as tie
 
 returns : tie.Need-returns
 returns c =
-    let at-account = c.before.before.before.before.before.before.before in
     record {
-      accounted = at-account.account.result;
-      accounts = at-account.account.ensures;
-      answered = to_z-of_z w64 _ (record { sfits = c.accounted-number.type-inv }) ∙ c.accounted-number.ensures;
+      accounted = c.account-accounted.result;
+      accounts = c.account-accounted.ensures;
+      answered = to_z-of_z w64 _ (record { sfits = c.accounted_number.type_inv }) ∙ c.accounted_number.ensures;
     }
 
-pub meter-account-spec : {M : Type 1} → statement M
-meter-account-spec =
+pub meter_account_spec : {M : Type 1} → statement M
+meter_account_spec =
     tie.close
     (tie.spec (λ c κs. search rules) (λ c κs. search rules) (λ c. search rules) (λ c. search rules) (λ c. search rules)
     returns)

@@ -9,15 +9,13 @@ use Rattle.meter_accounts.proofs.meter_check.Tie as tie
 
 returns : tie.Need-returns
 returns c =
-    let at-check = c.before.before.before in
-    let s = at-check.before.before.before.before.before in
     record {
-      verdict = at-check.check.result;
-      checks = rw (to_z-of_z w32 s.args.key s.ranges.key) at at-check.check.ensures;
-      answered = to_z-of_z w64 _ (record { sfits = c.verdict-number.type-inv }) ∙ c.verdict-number.ensures;
+      verdict = c.check-verdict.result;
+      checks = rw (to_z-of_z w32 c.args.key c.ranges.key) at c.check-verdict.ensures;
+      answered = to_z-of_z w64 _ (record { sfits = c.verdict_number.type_inv }) ∙ c.verdict_number.ensures;
     }
 
-pub meter-check-spec : {M : Type 1} → statement M
-meter-check-spec =
+pub meter_check_spec : {M : Type 1} → statement M
+meter_check_spec =
     tie.close
     (tie.spec (λ c κs. search rules) (λ c κs. search rules) (λ c. search rules) returns)

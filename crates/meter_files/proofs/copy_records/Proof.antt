@@ -9,56 +9,49 @@ use Rattle.meter_files.specs.Inner.{Copyable}
 use Rattle.meter_files.proofs.copy_records.Statement.{statement}
 use Rattle.meter_files.proofs.copy_records.Tie as tie
 
-abbrev invariant-loop : tie.invariant-loop
+abbrev invariant-loop : tie.invariant-loop-i
 invariant-loop s₀ to f from count i₀ s i = Lays s₀ (4 * to) (peaks_from f from) count s i
 
-abbrev decreases-loop : tie.decreases-loop
+abbrev decreases-loop : tie.decreases-loop-i
 decreases-loop s₀ to f from count i₀ s i = count - i
 
-loop-holds : tie.Need-loop-init invariant-loop decreases-loop
-loop-holds c = let a = c.before.before.args in lays-start (peaks-grow a.f.now a.from a.count)
+loop-holds : tie.Need-loop-i-init invariant-loop decreases-loop
+loop-holds c = let a = c.args in lays-start (peaks-grow a.f.now a.from a.count)
 
-ask : (c : tie.In-loop invariant-loop decreases-loop) → let a = c.before.before.before.before.args in
+ask : (c : tie.In-loop-i invariant-loop decreases-loop) → let a = c.args in
     Copyable a.s.now a.to a.f.now a.from a.count
-ask c = c.before.before.before.before.requires
+ask c = c.requires
 
-peak-from-requires : tie.Need-peak-from-requires invariant-loop decreases-loop
-peak-from-requires c κs = let p = c.before.before.before.before.before.requires in omega (arith, p.long (omega arith))
+peak-from-requires : tie.Need-peak_from-requires invariant-loop decreases-loop
+peak-from-requires c κs = let p = c.requires in omega (arith, p.long (omega arith))
 
-put-peak-requires : tie.Need-put-peak-requires invariant-loop decreases-loop
+put-peak-requires : tie.Need-put_peak-requires invariant-loop decreases-loop
 put-peak-requires c κs =
-    let at-loop = c.before.before.before in
-    let at_entry_lem = at-loop.before.before.before in
-    let a = at_entry_lem.args in
+    let a = c.args in
     omega (
       arith,
-      at_entry_lem.requires.room (omega arith),
-      lays-length (peaks-grow a.f.now a.from a.count) at-loop.loop.invariant at_entry_lem.requires.room,
+      c.requires.room (omega arith),
+      lays-length (peaks-grow a.f.now a.from a.count) c.loop-i.invariant c.requires.room,
     )
 
-loop-again : tie.Need-loop-preserved invariant-loop decreases-loop
+loop-again : tie.Need-loop-i-preserved invariant-loop decreases-loop
 loop-again c =
-    let at-put = c.before.before in
-    let at_test = at-put.before.before.before in
-    let at-loop = at_test.before in
-    let at_entry_lem = at-loop.before.before.before in
-    let a = at_entry_lem.args in
-    lays_step (peaks-grow a.f.now a.from a.count) at-loop.loop.invariant at_entry_lem.requires.room
-    at_test.loop-test.true at-put.before.peak-from.ensures (omega arith) at-put.put-peak.ensures
+    let a = c.args in
+    lays_step (peaks-grow a.f.now a.from a.count) c.loop-i.invariant c.requires.room
+    c.loop-i-test.true c.peak_from.ensures (omega arith) c.put_peak.ensures
 
-same_length : tie.Need-same-length invariant-loop decreases-loop
+same_length : tie.Need-shape_of-s invariant-loop decreases-loop
 same_length c =
-    let at_entry_lem = c.before.before.before.before in
-    let a = at_entry_lem.args in
-    lays-length (peaks-grow a.f.now a.from a.count) c.before.loop.invariant at_entry_lem.requires.room
+    let a = c.args in
+    lays-length (peaks-grow a.f.now a.from a.count) c.loop-i.invariant c.requires.room
 
 returns : tie.Need-returns invariant-loop decreases-loop
 returns c =
-    let a = c.before.before.before.before.args in
-    lays-done (peaks-grow a.f.now a.from a.count) c.before.loop.invariant c.loop-test.false
+    let a = c.args in
+    lays-done (peaks-grow a.f.now a.from a.count) c.loop-i.invariant c.loop-i-test.false
 
-pub copy-records-spec : {M : Type 1} → statement M
-copy-records-spec =
+pub copy_records_spec : {M : Type 1} → statement M
+copy_records_spec =
     tie.close
     (tie.spec invariant-loop decreases-loop loop-holds (λ c. omega (arith, (ask c.before).room (omega arith)))
     (λ c. omega (arith, (ask c.before).room (omega arith))) (λ c. omega (arith, (ask c.before).long (omega arith)))

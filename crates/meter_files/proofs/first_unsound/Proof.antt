@@ -41,43 +41,41 @@ module _ (hs : List ℤ) (s : List ℕ) (n : ℕ) {i state : ℕ} (h : ScannedOf
 
 -- ---- the answers
 
-abbrev invariant-loop : tie.invariant-loop
+abbrev invariant-loop : tie.invariant-loop-i
 invariant-loop heights records n state₀ i₀ state i = ScannedOf heights records n i state
 
-abbrev decreases-loop : tie.decreases-loop
+abbrev decreases-loop : tie.decreases-loop-i
 decreases-loop heights records n state₀ i₀ state i = n - i
 
-loop-holds : tie.Need-loop-init invariant-loop decreases-loop
+loop-holds : tie.Need-loop-i-init invariant-loop decreases-loop
 loop-holds c = (omega arith, scanned-start _ _)
 
-peak-from-requires : tie.Need-peak-from-requires invariant-loop decreases-loop
+peak-from-requires : tie.Need-peak_from-requires invariant-loop decreases-loop
 peak-from-requires c κs = omega arith
 
-scan-requires : tie.Need-scan-requires invariant-loop decreases-loop
+scan-requires : tie.Need-scan-state-requires invariant-loop decreases-loop
 scan-requires c κs = omega arith
 
-add-i : tie.Need-overflow-add-i invariant-loop decreases-loop
+add-i : tie.Need-overflow_add-i invariant-loop decreases-loop
 add-i c = omega arith
 
-loop-less : tie.Need-loop-smaller invariant-loop decreases-loop
+loop-less : tie.Need-loop-i-smaller invariant-loop decreases-loop
 loop-less c = omega arith
 
-loop-again : tie.Need-loop-preserved invariant-loop decreases-loop
+loop-again : tie.Need-loop-i-preserved invariant-loop decreases-loop
 loop-again c =
-    let at-loop = c.before.before.before in
-    let a = at-loop.before.before.args in
-    scan-on a.heights.now a.records.now (length a.records.now / 16) at-loop.loop.invariant
-    c.before.before.loop-test.true c.before.peak-from.ensures c.scan.ensures
+    let a = c.args in
+    scan-on a.heights.now a.records.now (length a.records.now / 16) c.loop-i.invariant
+    c.loop-i-test.true c.peak_from.ensures c.scan-state.ensures
 
 returns : tie.Need-returns invariant-loop decreases-loop
 returns c =
-    let at-loop = c.before.before in
-    let a = at-loop.before.before.args in
-    scan-end a.heights.now a.records.now (length a.records.now / 16) at-loop.loop.invariant
-    c.before.loop-test.false c.scanned.ensures
+    let a = c.args in
+    scan-end a.heights.now a.records.now (length a.records.now / 16) c.loop-i.invariant
+    c.loop-i-test.false c.scanned.ensures
 
-pub first-unsound-spec : {M : Type 1} → statement M
-first-unsound-spec =
+pub first_unsound_spec : {M : Type 1} → statement M
+first_unsound_spec =
     tie.close
     (tie.spec invariant-loop decreases-loop loop-holds (λ c. omega arith) peak-from-requires scan-requires add-i loop-less loop-again
     (λ c κs. search rules) returns)

@@ -16,35 +16,26 @@ use Rattle.meter_files.proofs.RunFiles.{file-few, file-copyable, file-taken}
 use Rattle.meter_files.proofs.meter_read.Statement.{statement}
 use Rattle.meter_files.proofs.meter_read.Tie as tie
 
-add-copy-records : tie.Need-overflow-add-copy-records
+add-copy-records : tie.Need-overflow_add-cells
 add-copy-records c =
-    let at_cells = c.before.before in
-    let at-grid = at_cells.before.before in
-    let a = at-grid.before.before.before.before.args in
+    let a = c.args in
     let few =
-    file-few a.file.now (length a.heights.now) a.table.now at-grid.take-grid.result
-    at-grid.take-grid.ensures.answer in
-    record { fits = omega (arith, at_cells.cells-to-take.ensures) }
+    file-few a.file.now (length a.heights.now) a.table.now c.take_grid-back.result
+    c.take_grid-back.ensures.answer in
+    record { fits = omega (arith, c.cells_to_take-cells.ensures) }
 
-copy-records-requires : tie.Need-copy-records-requires
+copy-records-requires : tie.Need-copy_records-requires
 copy-records-requires c κs =
-    let at_count = c.before in
-    let at_cells = at_count.before in
-    let at-grid = at_cells.before.before in
-    let a = at-grid.before.before.before.before.args in
-    rw (at_count.records-to-take.ensures, at_cells.cells-to-take.ensures)
-    (file-copyable a.file.now (length a.heights.now) a.table.now at-grid.take-grid.result
-    at-grid.take-grid.ensures.answer)
+    let a = c.args in
+    rw (c.records_to_take-count.ensures, c.cells_to_take-cells.ensures)
+    (file-copyable a.file.now (length a.heights.now) a.table.now c.take_grid-back.result
+    c.take_grid-back.ensures.answer)
 
 returns : tie.Need-returns
 returns c =
-    let at_copy = c.before.before.before in
-    let at_count = at_copy.before.before in
-    let at_cells = at_count.before in
-    let at-grid = at_cells.before.before in
-    let a = at-grid.before.before.before.before.args in
-    let grid = at-grid.take-grid in
-    let told = to_z-of_z w64 _ (record { sfits = c.read_number.type-inv }) ∙ c.read_number.ensures in
+    let a = c.args in
+    let grid = c.take_grid-back in
+    let told = to_z-of_z w64 _ (record { sfits = c.read_number.type_inv }) ∙ c.read_number.ensures in
     let f = a.file.now in
     record {
       back = grid.result;
@@ -52,15 +43,15 @@ returns c =
       answered = told;
       heights = grid.ensures.heights;
       filled =
-          at_copy.copy-records.ensures
+          c.copy_records.ensures
           ∙ ap₂ (λ (cells n : ℕ). over a.table.now (4 * 0) (bytes_of (all_fields_of (peaks_from f (6 + cells) n))))
-          at_cells.cells-to-take.ensures at_count.records-to-take.ensures
+          c.cells_to_take-cells.ensures c.records_to_take-count.ensures
           ∙ file-taken f (length a.heights.now) a.table.now grid.result grid.ensures.answer
           ∙ ap (λ (z : ℤ). bytes_after z (records_from f (cells_in f) (peaks_in f)) a.table.now) (sym told);
     }
 
-pub meter-read-spec : {M : Type 1} → statement M
-meter-read-spec =
+pub meter_read_spec : {M : Type 1} → statement M
+meter_read_spec =
     tie.close
     (tie.spec (λ c κs. search rules) (λ c κs. search rules) (λ c κs. search rules) add-copy-records
     copy-records-requires (λ c κs. search rules) (λ c. search rules) (λ c. search rules) returns)

@@ -12,17 +12,17 @@ use Rattle.layout.proofs.HandedBytes.{count-read}
 use Rattle.meter_files.proofs.read_number.Statement.{statement}
 use Rattle.meter_files.proofs.read_number.Tie as tie
 
-returns : tie.Need-returns
+returns : tie.Need-returns-in-Run
 returns c =
-    count-read c.before.back.given.0.1.1.0 (omega arith)
-    ∙ sym (ap (λ (a : ReadBack). signed_told (count_told a)) c.before.back.given.1)
+    count-read c.in-Run.peaks (omega arith)
+    ∙ sym (ap (λ (a : ReadBack). signed_told (count_told a)) c.in-Run.is)
 
-returns-2 : tie.Need-returns-2
+returns-2 : tie.Need-returns-in-Refused
 returns-2 c =
-    to_z-of_z w64 _ (record { sfits = c.refused-number.type-inv }) ∙ c.refused-number.ensures
-    ∙ sym (ap (λ (a : ReadBack). signed_told (count_told a)) c.before.before.back2.given.1)
+    to_z-of_z w64 _ (record { sfits = c.refused_number.type_inv }) ∙ c.refused_number.ensures
+    ∙ sym (ap (λ (a : ReadBack). signed_told (count_told a)) c.in-Refused.is)
 
-pub read-number-spec : {M : Type 1} → statement M
-read-number-spec =
+pub read_number_spec : {M : Type 1} → statement M
+read_number_spec =
     tie.close
     (tie.spec (λ c. search rules) (λ c. search rules) (λ c. search rules) (λ c κs. search rules) returns returns-2)

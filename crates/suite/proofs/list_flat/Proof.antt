@@ -12,23 +12,21 @@ use Rattle.suite.proofs.Answers.{bytes_good}
 use Rattle.suite.proofs.list_flat.Statement.{statement}
 use Rattle.suite.proofs.list_flat.Tie as tie
 
-list-good-requires : tie.Need-list-good-requires
+list-good-requires : tie.Need-list_good-requires
 list-good-requires c κs =
-    let at-check = c.before.before.before in
-    let a = at-check.before.before.before.args in
+    let a = c.args in
     bytes_good a.rows (length a.heights.now) (length a.work.now)
-    (sym at-check.check.ensures ∙ c.before.enum_told.given.1)
+    (sym c.check-checked.ensures ∙ c.in-Good.is)
 
-returns : tie.Need-returns
+returns : tie.Need-returns-in-Bad
 returns c =
-    let at-check = c.before.before.before in
-    let a = at-check.before.before.before.args in
+    let a = c.args in
     list-refused (suite_tests a.rows (length a.heights.now) (length a.work.now)) (plane_of a.rows)
     a.threshold a.room (heights_from a.heights.now 0 (length a.heights.now / 4))
-    (sym at-check.check.ensures ∙ c.before.checked.given.1) refl
+    (sym c.check-checked.ensures ∙ c.in-Bad.is) refl
 
-pub list-flat-spec : {M : Type 1} → statement M
-list-flat-spec =
+pub list_flat_spec : {M : Type 1} → statement M
+list_flat_spec =
     tie.close
     (tie.spec (λ c κs. search rules) (λ c. search rules) (λ c. search rules) list-good-requires returns
     (λ c. search rules) (λ c. search rules))

@@ -14,52 +14,47 @@ use Rattle.suite.proofs.Heights.{loads-signed}
 use Rattle.suite.proofs.load_bytes.Statement.{statement}
 use Rattle.suite.proofs.load_bytes.Tie as tie
 
-abbrev invariant-loop : tie.invariant-loop
+abbrev invariant-loop : tie.invariant-loop-c
 invariant-loop work₀ heights n c₀ work c = Loads work₀ work (heights_from heights 0 n) n c
 
-abbrev decreases-loop : tie.decreases-loop
+abbrev decreases-loop : tie.decreases-loop-c
 decreases-loop work₀ heights n c₀ work c = n - c
 
-loop-holds : tie.Need-loop-init invariant-loop decreases-loop
+loop-holds : tie.Need-loop-c-init invariant-loop decreases-loop
 loop-holds c =
-    let a = c.before.before.args in
-    loads-start a.work.now (heights_from a.heights.now 0 a.n) a.n c.before.slice-known.given
+    let a = c.args in
+    loads-start a.work.now (heights_from a.heights.now 0 a.n) a.n c.slice_known-1.given
 
 get-requires : tie.Need-get-requires invariant-loop decreases-loop
 get-requires c κs = omega arith
 
 put-requires : tie.Need-put-requires invariant-loop decreases-loop
 put-requires c κs =
-    let at-loop = c.before.before.before.before.before in
-    omega (arith, at-loop.before.before.before.requires.0.room, at-loop.loop.invariant.len)
+    omega (arith, c.requires.0.room, c.loop-c.invariant.len)
 
-add-c : tie.Need-overflow-add-c invariant-loop decreases-loop
+add-c : tie.Need-overflow_add-c invariant-loop decreases-loop
 add-c c = omega arith
 
-loop-less : tie.Need-loop-smaller invariant-loop decreases-loop
+loop-less : tie.Need-loop-c-smaller invariant-loop decreases-loop
 loop-less c = omega arith
 
-loop-again : tie.Need-loop-preserved invariant-loop decreases-loop
+loop-again : tie.Need-loop-c-preserved invariant-loop decreases-loop
 loop-again c =
-    let at-put = c.before.before in
-    let at-signed = at-put.before.before.before in
-    let at_test = at-signed.before.before in
-    let at-loop = at_test.before in
-    loads-signed at-loop.before.before.before.args.heights.now at-loop.loop.invariant
-    at_test.loop-test.true
-    (at-put.before.level.ensures
-    ∙ ap level_of (to_z-of_z w32 _ (record { sfits = at-signed.signed.type-inv }) ∙ at-signed.signed.ensures
-    ∙ ap signed_of at-signed.before.get.ensures))
-    at-put.put.ensures c.slice-known2.given
+    loads-signed c.args.heights.now c.loop-c.invariant
+    c.loop-c-test.true
+    (c.level.ensures
+    ∙ ap level_of (to_z-of_z w32 _ (record { sfits = c.signed-height.type_inv }) ∙ c.signed-height.ensures
+    ∙ ap signed_of c.get.ensures))
+    c.put.ensures c.slice_known-in-loop-c-1.given
 
-same_length : tie.Need-same-length invariant-loop decreases-loop
-same_length c = c.before.loop.invariant.len
+same_length : tie.Need-shape_of-work invariant-loop decreases-loop
+same_length c = c.loop-c.invariant.len
 
 returns : tie.Need-returns invariant-loop decreases-loop
-returns c = loads-done c.before.before.before.slice-known.given c.before.loop.invariant c.loop-test.false
+returns c = loads-done c.slice_known-1.given c.loop-c.invariant c.loop-c-test.false
 
-pub load-bytes-spec : {M : Type 1} → statement M
-load-bytes-spec =
+pub load_bytes_spec : {M : Type 1} → statement M
+load_bytes_spec =
     tie.close
     (tie.spec invariant-loop decreases-loop loop-holds get-requires (λ c κs. search rules) (λ c κs. search rules) put-requires add-c
     loop-less loop-again same_length returns)
