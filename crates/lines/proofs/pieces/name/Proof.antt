@@ -1,6 +1,7 @@
 -- `lines::name` meets its contract: six bytes stored one behind the other are laid over (`over-push`). Assumes nothing.
+use mathlib.Core.Bool.{not}
 use mathlib.Core.List.{[], ◌∷◌}
-use mathlib.Core.Path.{refl}
+use mathlib.Core.Path.{refl, ap}
 use Prim.Native.Nat.{◌+◌, ◌≤◌}
 use native.Mathlib.Omega.{arith}
 use borrow.Author.Rules.{rules}
@@ -11,15 +12,15 @@ use Rattle.lines.proofs.Printing.{printed-counted, printed-laid}
 use Rattle.lines.proofs.pieces.name.Statement.{statement}
 use Rattle.lines.proofs.pieces.name.Tie as tie
 
-returns : tie.Need-returns
-returns c = printed-counted c.if1.true refl
+returns : tie.Need-returns-then-not-write
+returns c = printed-counted (ap not c.if-not-write.true) refl
 
-room : (c : tie.Else1) → c.before.args.at + 6 ≤ length c.before.args.text.now
-room c = c.before.requires.inside (not-false c.before.args.write c.if1.false)
+room : (c : tie.Else-not-write) → c.args.at + 6 ≤ length c.args.text.now
+room c = c.requires.inside c.if-not-write.false
 
-returns-2 : tie.Need-returns-2
+returns-2 : tie.Need-returns
 returns-2 c =
-    let args = c.before.args in
+    let args = c.args in
     let s = args.text.now in
     let at = args.at in
     let a = args.a in
@@ -31,10 +32,10 @@ returns-2 c =
     let e3 = over-push s at (32 ∷ 112 ∷ a ∷ []) (at + 3) b e2 refl (omega arith) in
     let e4 = over-push s at (32 ∷ 112 ∷ a ∷ b ∷ []) (at + 4) args.c e3 refl (omega arith) in
     let e5 = over-push s at (32 ∷ 112 ∷ a ∷ b ∷ args.c ∷ []) (at + 5) 32 e4 refl (omega arith) in
-    printed-laid c.if1.false refl e5
+    printed-laid (ap not c.if-not-write.false) refl e5
 
-pub name-spec : {M : Type 1} → statement M
-name-spec =
+pub name_spec : {M : Type 1} → statement M
+name_spec =
     tie.close
     (tie.spec (λ c. search rules) returns (λ c. omega (arith, room c)) (λ c. search rules)
     (λ c. simp length-set (omega (arith, room c))) (λ c. search rules) (λ c. simp length-set (omega (arith, room c)))

@@ -11,13 +11,13 @@ use Rattle.lines.proofs.pieces.put_digits.Proof.Lemmas.{digits-two}
 use Rattle.lines.proofs.pieces.put_digits.Statement.{statement}
 use Rattle.lines.proofs.pieces.put_digits.Tie as tie
 
-abbrev invariant-loop : tie.invariant-loop
+abbrev invariant-loop : tie.invariant-loop-rest
 invariant-loop text₀ at count v place₀ rest₀ text place rest = Digits text₀ at v text place rest
 
-abbrev decreases-loop : tie.decreases-loop
+abbrev decreases-loop : tie.decreases-loop-rest
 decreases-loop text₀ at count v place₀ rest₀ text place rest = rest
 
-loop-holds : tie.Need-loop-init invariant-loop decreases-loop
+loop-holds : tie.Need-loop-rest-init invariant-loop decreases-loop
 loop-holds c =
     let start = c.before in
     digits-start start.args.text.now start.args.at start.args.v start.requires.0 start.requires.1
@@ -25,69 +25,69 @@ loop-holds c =
 -- ---- a turn
 
 -- two digits are left at least
-left : (c : tie.In-loop invariant-loop decreases-loop) → c.before.before.before.args.at + 1 < c.before.loop.place
-left c = place-two c.before.loop.invariant (omega (arith, c.loop-test.true))
+left : (c : tie.In-loop-rest invariant-loop decreases-loop) → c.before.before.before.args.at + 1 < c.before.loop-rest.place
+left c = place-two c.loop-rest.invariant (omega (arith, c.loop-rest-test.true))
 
-sub-place : tie.Need-overflow-sub-place invariant-loop decreases-loop
+sub-place : tie.Need-overflow_sub-place invariant-loop decreases-loop
 sub-place c = omega (arith, left c)
 
-add-text : tie.Need-overflow-add-text invariant-loop decreases-loop
+add-text : tie.Need-overflow_add-text invariant-loop decreases-loop
 add-text c =
-    let d = c.before.before.loop.invariant in
-    omega (arith, left c.before, digits-fits d, d.fits, c.before.before.before.before.requires.1)
+    let d = c.loop-rest.invariant in
+    omega (arith, left c.before, digits-fits d, d.fits, c.requires.1)
 
-slice-write-text : tie.Need-slice-write-text invariant-loop decreases-loop
+slice-write-text : tie.Need-bounds-text-place invariant-loop decreases-loop
 slice-write-text c =
-    let d = c.before.before.loop.invariant in omega (arith, left c.before, digits-length d, digits-fits d)
+    let d = c.loop-rest.invariant in omega (arith, left c.before, digits-length d, digits-fits d)
 
-slice-write-text-2 : tie.Need-slice-write-text-2 invariant-loop decreases-loop
+slice-write-text-2 : tie.Need-bounds-text-place-in-loop-rest invariant-loop decreases-loop
 slice-write-text-2 c =
     let at-digit = c.before in
-    let d = at-digit.before.before.loop.invariant in
+    let d = at-digit.loop-rest.invariant in
     simp length-set (omega (arith, left at-digit.before, digits-length d, digits-fits d))
 
-loop-again : tie.Need-loop-preserved invariant-loop decreases-loop
+loop-again : tie.Need-loop-rest-preserved invariant-loop decreases-loop
 loop-again c =
     let at-digit = c.before in
     let at_test = at-digit.before in
-    digits-pair at_test.before.loop.invariant at_test.loop-test.true at-digit.digit.ensures c.digit2.ensures
+    digits-pair at_test.loop-rest.invariant at_test.loop-rest-test.true at-digit.digit.ensures c.digit-in-loop-rest.ensures
 
 -- ---- the last two digits
 
-slice-write-text-3 : tie.Need-slice-write-text-3 invariant-loop decreases-loop
+slice-write-text-3 : tie.Need-bounds-text-at invariant-loop decreases-loop
 slice-write-text-3 c =
-    let d = c.before.before.before.loop.invariant in
-    omega (arith, place-two d c.before.if1.true, digits-length d, digits-fits d)
+    let d = c.loop-rest.invariant in
+    omega (arith, place-two d c.if-rest-ge10.true, digits-length d, digits-fits d)
 
-slice-write-text-4 : tie.Need-slice-write-text-4 invariant-loop decreases-loop
+slice-write-text-4 : tie.Need-bounds-text-at-then-rest-ge10 invariant-loop decreases-loop
 slice-write-text-4 c =
-    let d = c.before.before.before.before.loop.invariant in
+    let d = c.loop-rest.invariant in
     simp length-set (omega (arith, digits-place d, digits-length d, digits-fits d))
 
-same_length : tie.Need-same-length invariant-loop decreases-loop
-same_length c = let d = c.before.before.before.before.loop.invariant in simp length-set (digits-length d)
+same_length : tie.Need-shape_of-text-then-rest-ge10 invariant-loop decreases-loop
+same_length c = let d = c.loop-rest.invariant in simp length-set (digits-length d)
 
-returns : tie.Need-returns invariant-loop decreases-loop
+returns : tie.Need-returns-then-rest-ge10 invariant-loop decreases-loop
 returns c =
     let at-digit = c.before in
     let at-if1 = at-digit.before in
-    digits-two at-if1.before.before.loop.invariant at-if1.if1.true at-if1.before.loop-test.false
-    at-digit.digit3.ensures c.digit4.ensures
+    digits-two at-if1.loop-rest.invariant at-if1.if-rest-ge10.true at-if1.loop-rest-test.false
+    at-digit.digit-then-rest-ge10.ensures c.digit-then-rest-ge10-2.ensures
 
 -- ---- the last digit
 
-slice-write-text-5 : tie.Need-slice-write-text-5 invariant-loop decreases-loop
+slice-write-text-5 : tie.Need-bounds-text-at-2 invariant-loop decreases-loop
 slice-write-text-5 c =
-    let d = c.before.before.before.loop.invariant in omega (arith, digits-place d, digits-length d, digits-fits d)
+    let d = c.loop-rest.invariant in omega (arith, digits-place d, digits-length d, digits-fits d)
 
-same-length-2 : tie.Need-same-length-2 invariant-loop decreases-loop
-same-length-2 c = let d = c.before.before.before.loop.invariant in simp length-set (digits-length d)
+same-length-2 : tie.Need-shape_of-text invariant-loop decreases-loop
+same-length-2 c = let d = c.loop-rest.invariant in simp length-set (digits-length d)
 
-returns-2 : tie.Need-returns-2 invariant-loop decreases-loop
-returns-2 c = digits-one c.before.before.before.loop.invariant c.before.if1.false c.digit5.ensures
+returns-2 : tie.Need-returns invariant-loop decreases-loop
+returns-2 c = digits-one c.loop-rest.invariant c.if-rest-ge10.false c.digit-2.ensures
 
-pub put-digits-spec : {M : Type 1} → statement M
-put-digits-spec =
+pub put_digits_spec : {M : Type 1} → statement M
+put_digits_spec =
     tie.close
     (tie.spec invariant-loop decreases-loop (λ c. omega arith) loop-holds sub-place (λ c κs. omega arith) add-text
     slice-write-text (λ c κs. omega arith) slice-write-text-2 (λ c. omega arith) loop-again (λ c κs. omega arith)
