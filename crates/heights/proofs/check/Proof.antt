@@ -6,16 +6,13 @@ use Rattle.heights.proofs.check.Tie as tie
 
 returns : tie.Need-returns
 returns c =
-    let at-third = c.before.before in
-    let at_rows = at-third.before.before.before in
-    let at-index = at_rows.before.before in
-    let a = at-index.before.args in
-    tests-made a.rows a.cells a.work at-index.index.ensures at_rows.bad-rows.ensures
-    at_rows.before.uneven.ensures c.before.short-work.ensures at-third.before.before.then-test.ensures
-    at-third.before.then-test2.ensures at-third.then-test3.ensures c.then-test4.ensures
+    let a = c.args in
+    tests-made a.rows a.cells a.work c.index.ensures c.bad_rows.ensures
+    c.uneven-uneven.ensures c.short_work.ensures c.then_test-checked.ensures
+    c.then_test-checked-2.ensures c.then_test-checked-3.ensures c.then_test.ensures
 
-pub check-spec : {M : Type 1} → statement M
-check-spec =
+pub check_spec : {M : Type 1} → statement M
+check_spec =
     tie.close
     (tie.spec (λ c κs. search rules) (λ c κs. search rules) (λ c κs. search rules) (λ c κs. search rules)
     (λ c κs. search rules) (λ c κs. search rules) (λ c κs. search rules) (λ c κs. search rules) returns)
