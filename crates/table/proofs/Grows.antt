@@ -3,6 +3,7 @@
 --     grows-length, grows_at   its length, and its items
 --     filled row t i         the row t with the first i items in place of its own
 --     filled-start, filled-step   it is t at 0, and one more item stored makes it that of i + 1
+--     filled-next            the same of a row and an item that are equal to those
 --     filled-length          it is as long as t
 -- Assumes nothing.
 use mathlib.Core.List.{List, [], ◌∷◌, ◌++◌}
@@ -49,6 +50,11 @@ module _ {A : Type 0} {row : ℕ → List A} {item : ℕ → A} {n : ℕ} (g : G
       ∙ set_at (row i) (get_or t i (item i)) (drop (suc i) t) (item i) i (grows-length i (omega arith))
       ∙ sym (append_snoc (row i) (item i) (drop (suc i) t))
       ∙ ap (λ (r : List A). r ++ drop (suc i) t) (sym (g.next i l)) ∙ ap (filled row t) (sym (add-one i))
+
+  pub filled-next : (t : List A) (i : ℕ) → i < n → i < length t → (u : List A) (x : A) → u ≡ filled row t i
+      → x ≡ item i → set u i x ≡ filled row t (i + 1)
+  filled-next t i l h u x e f =
+      ap (λ (r : List A). set r i x) e ∙ ap (λ (y : A). set (filled row t i) i y) f ∙ filled-step t i l h
 
   pub filled-length : (t : List A) (i : ℕ) → i ≤ n → i ≤ length t → length (filled row t i) ≡ length t
   filled-length t i l h = length-append (row i) (drop i t) ∙ omega (arith, grows-length i l, length-drop i t)

@@ -9,43 +9,38 @@ use Rattle.table.proofs.Laws.{height-unique, peak-without-key, peak-with-key}
 use Rattle.table.proofs.peak_at.Statement.{statement}
 use Rattle.table.proofs.peak_at.Tie as tie
 
-returns : tie.Need-returns
+returns : tie.Need-returns-then-parent-cell
 returns c =
-    let at-height = c.before.before.before in
-    let h = at-height.height in
-    let e = height-unique h.result at-height.before.get.result h.type-inv (omega arith) h.ensures in
-    let l = at-height.before.get.ensures in
-    let p = peak-without-key _ _ _ (sym c.before.before.get2.ensures ∙ c.before.if1.true) in
-    let r = c.without-key.ensures in
+    let h = c.height-height in
+    let e = height-unique h.result c.get-level.result h.type_inv (omega arith) h.ensures in
+    let l = c.get-level.ensures in
+    let p = peak-without-key _ _ _ (sym c.get-parent.ensures ∙ c.if-parent-cell.true) in
+    let r = c.without_key.ensures in
     cc
 
-get-requires-4 : tie.Need-get-requires-4
+get-requires-4 : tie.Need-get-below-requires
 unfolding cell_in
 get-requires-4 c κs =
-    let at-start = c.before.before.before.before.before.before in
-    let l = at-start.requires.pass in
-    let e = c.get3.ensures in
+    let l = c.requires.pass in
+    let e = c.get-mark.ensures in
     rw e (omega arith)
 
-returns-2 : tie.Need-returns-2
+returns-2 : tie.Need-returns
 unfolding cell_in
 returns-2 c =
-    let at_key = c.before in
-    let k = at_key.height2 in
-    let ek = height-unique k.result at_key.before.get4.result k.type-inv (omega arith) k.ensures in
-    let lk = at_key.before.get4.ensures in
-    let m = at_key.before.before.get3.ensures in
-    let at_test = at_key.before.before.before in
-    let at-height = at_test.before.before in
-    let h = at-height.height in
-    let e = height-unique h.result at-height.before.get.result h.type-inv (omega arith) h.ensures in
-    let l = at-height.before.get.ensures in
-    let p = peak-with-key _ _ _ (λ q. at_test.if1.false (at_test.before.get2.ensures ∙ q)) in
-    let r = c.with-key.ensures in
+    let k = c.height-key in
+    let ek = height-unique k.result c.get-below.result k.type_inv (omega arith) k.ensures in
+    let lk = c.get-below.ensures in
+    let m = c.get-mark.ensures in
+    let h = c.height-height in
+    let e = height-unique h.result c.get-level.result h.type_inv (omega arith) h.ensures in
+    let l = c.get-level.ensures in
+    let p = peak-with-key _ _ _ (λ q. c.if-parent-cell.false (c.get-parent.ensures ∙ q)) in
+    let r = c.with_key.ensures in
     cc
 
-pub peak-at-spec : {M : Type 1} → statement M
-peak-at-spec =
+pub peak_at_spec : {M : Type 1} → statement M
+peak_at_spec =
     tie.close
     (tie.spec (λ c. search rules) (λ c κs. search rules) (λ c κs. search rules) (λ c. search rules) (λ c. search rules)
     (λ c κs. search rules) (λ c κs. search rules) returns (λ c. search rules) (λ c. search rules) (λ c κs. search rules)

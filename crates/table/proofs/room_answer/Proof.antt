@@ -21,11 +21,11 @@ module _ {room count m : ℕ} (e : m ≡ count) where
   enough l =
       ap Count e ∙ sym (ap (λ (b : Bool). cond b (Refused (Table count)) (Count count)) (le-ltb room count l))
 
-returns : tie.Need-returns
-returns c = short c.narrow.ensures c.before.if1.true
+returns : tie.Need-returns-then-room-count
+returns c = short c.narrow.ensures c.if-room-count.true
 
-returns-2 : tie.Need-returns-2
-returns-2 c = enough c.narrow2.ensures c.before.if1.false
+returns-2 : tie.Need-returns
+returns-2 c = enough c.narrow-2.ensures c.if-room-count.false
 
-pub room-answer-spec : {M : Type 1} → statement M
-room-answer-spec = tie.close (tie.spec (λ c κs. search rules) returns (λ c κs. search rules) returns-2)
+pub room_answer_spec : {M : Type 1} → statement M
+room_answer_spec = tie.close (tie.spec (λ c κs. search rules) returns (λ c κs. search rules) returns-2)
