@@ -10,46 +10,44 @@ use Rattle.flood.proofs.better_cell.Statement.{statement}
 use Rattle.flood.proofs.better_cell.Tie as tie
 
 -- the gate of the cell
-gate : (c : tie.After-index) → let a = c.before.before.before.args in
+gate : (c : tie.After-index) → let a = c.args in
     c.index.result ≡ parent_in a.work.now a.n a.c
-gate c = c.index.ensures ∙ c.before.get.ensures
+gate c = c.index.ensures ∙ c.get.ensures
 
-returns : tie.Need-returns
-returns c = let e = gate c.before in let l = c.if1.true in unreached refl (omega arith)
+returns : tie.Need-returns-then-n-index
+returns c = let e = gate c.before in let l = c.if-n-index.true in unreached refl (omega arith)
 
 -- where the levels are read, the cell is reached
-reached : (c : tie.After-get3) → let a = c.before.before.before.before.before.before.args in
+reached : (c : tie.After-get-l) → let a = c.args in
     parent_in a.work.now a.n a.c < a.n
 reached c =
-    let at-if1 = c.before.before in
-    let e = gate at-if1.before in
-    let l = at-if1.if1.false in
+    let at-if1 = c.before.before.before in
+    let e = gate at-if1 in
+    let l = c.if-n-index.false in
     omega arith
 
-returns-2 : tie.Need-returns-2
+returns-2 : tie.Need-returns-then-k-l
 returns-2 c =
     let g = c.before in
-    cell-higher _ g.before.get2.ensures g.get3.ensures (reached g) c.if2.true
+    cell-higher _ c.get-k.ensures c.get-l.ensures (reached g) c.if-k-l.true
 
-returns-3 : tie.Need-returns-3
+returns-3 : tie.Need-returns-then-l-k
 returns-3 c =
-    let g = c.before.before in
-    cell-lower _ g.before.get2.ensures g.get3.ensures c.if3.true
+    cell-lower _ c.get-k.ensures c.get-l.ensures c.if-l-k.true
 
-returns-4 : tie.Need-returns-4
+returns-4 : tie.Need-returns-then-c-top
 returns-4 c =
     let g = c.before.before.before in
-    cell-earlier _ g.before.get2.ensures g.get3.ensures c.before.before.if2.false c.before.if3.false
-    (reached g) c.if4.true
+    cell-earlier _ c.get-k.ensures c.get-l.ensures c.if-k-l.false c.if-l-k.false
+    (reached g) c.if-c-top.true
 
-returns-5 : tie.Need-returns-5
+returns-5 : tie.Need-returns
 returns-5 c =
-    let g = c.before.before.before in
-    cell-later _ g.before.get2.ensures g.get3.ensures c.before.before.if2.false c.before.if3.false
-    c.if4.false
+    cell-later _ c.get-k.ensures c.get-l.ensures c.if-k-l.false c.if-l-k.false
+    c.if-c-top.false
 
-pub better-cell-spec : {M : Type 1} → statement M
-better-cell-spec =
+pub better_cell_spec : {M : Type 1} → statement M
+better_cell_spec =
     tie.close
     (tie.spec (λ c. search rules) (λ c. search rules) (λ c κs. search rules) (λ c κs. search rules) returns
     (λ c κs. search rules) (λ c κs. search rules) returns-2 returns-3 returns-4 returns-5)

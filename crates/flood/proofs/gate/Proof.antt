@@ -8,19 +8,17 @@ use Rattle.relief.proofs.Tests.{cond-true, cond-false}
 use Rattle.flood.proofs.gate.Statement.{statement}
 use Rattle.flood.proofs.gate.Tie as tie
 
-returns : tie.Need-returns
+returns : tie.Need-returns-then-level-low
 returns c =
-    let at-if1 = c.before in
-    let a = at-if1.before.args in
+    let a = c.args in
     c.narrow.ensures
-    ∙ sym (cond-true (ltb a.level a.low) (a.n + 1) a.n (lt-ltb a.level a.low at-if1.if1.true))
+    ∙ sym (cond-true (ltb a.level a.low) (a.n + 1) a.n (lt-ltb a.level a.low c.if-level-low.true))
 
-returns-2 : tie.Need-returns-2
+returns-2 : tie.Need-returns
 returns-2 c =
-    let at-if1 = c.before in
-    let a = at-if1.before.args in
-    c.narrow2.ensures
-    ∙ sym (cond-false (ltb a.level a.low) (a.n + 1) a.n (le-ltb a.level a.low at-if1.if1.false))
+    let a = c.args in
+    c.narrow-2.ensures
+    ∙ sym (cond-false (ltb a.level a.low) (a.n + 1) a.n (le-ltb a.level a.low c.if-level-low.false))
 
-pub gate-spec : {M : Type 1} → statement M
-gate-spec = tie.close (tie.spec (λ c. search rules) (λ c κs. search rules) returns (λ c κs. search rules) returns-2)
+pub gate_spec : {M : Type 1} → statement M
+gate_spec = tie.close (tie.spec (λ c. search rules) (λ c κs. search rules) returns (λ c κs. search rules) returns-2)

@@ -22,59 +22,50 @@ at-gate {y} s f g e b =
 
 place-requires : tie.Need-place-requires
 place-requires c κs =
-    let at-if1 = c.before in
-    let g = at-if1.before.before.requires in
-    inner-past g.around g.which c.spread.ensures (g.inside at-if1.if1.true)
+    let g = c.requires in
+    inner-past g.around g.which c.spread.ensures (g.inside c.if-inner.true)
 
 -- where an inner cell's place is
-inside : (c : tie.After-place) → let g = c.before.before.before.before.requires in
-    c.place.result < c.before.before.before.before.args.n
+inside : (c : tie.After-place) → let g = c.requires in
+    c.place.result < c.args.n
 inside c =
-    let at-spread = c.before in
-    let at-if1 = at-spread.before in
-    let g = at-if1.before.before.requires in
-    inner_below g.around g.which at-spread.spread.ensures (g.inside at-if1.if1.true) c.place.ensures
+    let g = c.requires in
+    inner_below g.around g.which c.spread.ensures (g.inside c.if-inner.true) c.place.ensures
 
-add-get : tie.Need-overflow-add-get
+add-get : tie.Need-overflow_add-n
 add-get c =
     let l = inside c in
-    omega (arith, c.before.before.before.before.requires.area.few)
+    omega (arith, c.requires.area.few)
 
 get-requires : tie.Need-get-requires
 get-requires c κs =
     let l = inside c in
-    omega (arith, c.before.before.before.before.requires.area.room)
+    omega (arith, c.requires.area.room)
 
-returns : tie.Need-returns
+returns : tie.Need-returns-then-inner
 returns c =
-    let at-get = c.before in
-    let at_place = at-get.before in
-    let at-spread = at_place.before in
-    let at-if1 = at-spread.before in
-    let s = at-if1.before.before in
-    let g = s.requires in
+    let at_place = c.before.before in
+    let s = c.before.before.before.before.before.before in
+    let g = c.requires in
     let e =
-    inner-is g.around g.which at-spread.spread.ensures (g.inside at-if1.if1.true)
-    at_place.place.ensures in
-    at-gate s at-get.get.ensures c.index.ensures e (inside at_place)
+    inner-is g.around g.which c.spread.ensures (g.inside c.if-inner.true)
+    c.place.ensures in
+    at-gate s c.get.ensures c.index.ensures e (inside at_place)
 
-returns-2 : tie.Need-returns-2
+returns-2 : tie.Need-returns-then-n-y
 returns-2 c =
-    let at-neighbour = c.before in
-    let a = at-neighbour.before.before.before.args in
-    sym (ap (gate_in a.work.now a.n) (sym at-neighbour.neighbour.ensures)
-    ∙ gate-none a.work.now a.n _ c.if2.true)
+    let a = c.args in
+    sym (ap (gate_in a.work.now a.n) (sym c.neighbour-y.ensures)
+    ∙ gate-none a.work.now a.n _ c.if-n-y.true)
 
-returns-3 : tie.Need-returns-3
+returns-3 : tie.Need-returns
 returns-3 c =
-    let at-get = c.before in
-    let at-if2 = at-get.before in
-    let at-neighbour = at-if2.before in
-    at-gate at-neighbour.before.before.before at-get.get2.ensures c.index2.ensures
-    at-neighbour.neighbour.ensures at-if2.if2.false
+    let at-neighbour = c.before.before.before.before.before.before in
+    at-gate at-neighbour c.get-2.ensures c.index-2.ensures
+    c.neighbour-y.ensures c.if-n-y.false
 
-pub gate-at-spec : {M : Type 1} → statement M
-gate-at-spec =
+pub gate_at_spec : {M : Type 1} → statement M
+gate_at_spec =
     tie.close
     (tie.spec (λ c. search rules) (λ c κs. search rules) place-requires add-get get-requires (λ c κs. search rules)
     returns (λ c κs. search rules) (λ c. search rules) returns-2 (λ c. search rules) (λ c. search rules)

@@ -11,34 +11,34 @@ use Rattle.flood.proofs.Reaches.{Turned, SeenTo, look-start, look-step, look-don
 use Rattle.flood.proofs.look.Statement.{statement}
 use Rattle.flood.proofs.look.Tie as tie
 
-abbrev invariant-loop : tie.invariant-loop
+abbrev invariant-loop : tie.invariant-loop-i
 invariant-loop work₀ n rows head tail x row inner last₀ i₀ work last i =
     Turned (touch_of (plane_of rows)) work₀ work n head tail last (SeenTo rows n x i) × (i ≤ 8)
 
-abbrev decreases-loop : tie.decreases-loop
+abbrev decreases-loop : tie.decreases-loop-i
 decreases-loop work₀ n rows head tail x row inner last₀ i₀ work last i = 8 - i
 
-add-get : tie.Need-overflow-add-get invariant-loop decreases-loop
+add-get : tie.Need-overflow_add-n invariant-loop decreases-loop
 add-get c =
-    let p = c.before.before.requires in
+    let p = c.requires in
     let f = spreading-few p.spreading in
     omega (arith, p.more, p.area.few)
 
 get-requires : tie.Need-get-requires invariant-loop decreases-loop
 get-requires c κs =
-    let p = c.before.before.requires in
+    let p = c.requires in
     let f = spreading-few p.spreading in
     omega (arith, p.more, p.area.room)
 
 -- the cell whose turn it is
-at_head : (c : tie.After-index invariant-loop decreases-loop) → let a = c.before.before.before.before.args in
-    c.index.result ≡ order_in a.work.now a.n a.head
-at_head c = c.index.ensures ∙ c.before.get.ensures
+at_head : (c : tie.After-index-x invariant-loop decreases-loop) → let a = c.args in
+    c.index-x.result ≡ order_in a.work.now a.n a.head
+at_head c = c.index-x.ensures ∙ c.get.ensures
 
-around : (c : tie.After-index invariant-loop decreases-loop) → let a = c.before.before.before.before.args in
-    Around a.rows a.n c.index.result (c.index.result % a.rows)
+around : (c : tie.After-index-x invariant-loop decreases-loop) → let a = c.args in
+    Around a.rows a.n c.index-x.result (c.index-x.result % a.rows)
 around c =
-    let p = c.before.before.before.before.requires in
+    let p = c.requires in
     let e = at_head c in
     record {
       rows-some = p.rows-some;
@@ -48,63 +48,57 @@ around c =
       place = refl;
     }
 
-rem_row : tie.Need-nonzero-rem-row invariant-loop decreases-loop
-rem_row c = c.before.before.before.before.requires.rows-some
+rem_row : tie.Need-nonzero_rem-row invariant-loop decreases-loop
+rem_row c = c.requires.rows-some
 
-is-inner-requires : tie.Need-is-inner-requires invariant-loop decreases-loop
+is-inner-requires : tie.Need-is_inner-inner-requires invariant-loop decreases-loop
 is-inner-requires c κs = around c
 
-loop-holds : tie.Need-loop-init invariant-loop decreases-loop
+loop-holds : tie.Need-loop-i-init invariant-loop decreases-loop
 loop-holds c =
     let at-index = c.before in
-    let p = at-index.before.before.before.before.requires in
+    let p = c.requires in
     (look-start p.rows-some (at_head at-index) p.spreading, omega arith)
 
-reach-requires : tie.Need-reach-requires invariant-loop decreases-loop
+reach-requires : tie.Need-reach-last-requires invariant-loop decreases-loop
 reach-requires c κs =
-    let at-loop = c.before.before in
-    let at_inner = at-loop.before in
-    let at-index = at_inner.before in
-    let p = at-index.before.before.before.before.requires in
-    let h = at-loop.loop.invariant.0 in
+    let at-index = c.before.before.before.before in
+    let p = c.requires in
+    let h = c.loop-i.invariant.0 in
     let f = spreading-few h.spreading in
     let g = spreading-few p.spreading in (
       record {
         area = record { few = p.area.few; room = let r = p.area.room in let l = h.onward.len in omega arith };
         around = around at-index;
-        inside = at_inner.is-inner.ensures;
-        which = c.before.loop-test.true;
+        inside = c.is_inner-inner.ensures;
+        which = c.loop-i-test.true;
       },
       let m = p.more in omega arith,
       f,
     )
 
-add-i : tie.Need-overflow-add-i invariant-loop decreases-loop
+add-i : tie.Need-overflow_add-i invariant-loop decreases-loop
 add-i c = omega arith
 
-loop-less : tie.Need-loop-smaller invariant-loop decreases-loop
+loop-less : tie.Need-loop-i-smaller invariant-loop decreases-loop
 loop-less c = omega arith
 
-loop-again : tie.Need-loop-preserved invariant-loop decreases-loop
+loop-again : tie.Need-loop-i-preserved invariant-loop decreases-loop
 loop-again c =
-    let at-reach = c.before.before in
-    let at_test = at-reach.before.before in
-    let at-loop = at_test.before in
-    let at-index = at-loop.before.before in
-    let p = at-index.before.before.before.before.requires in
-    let h = at-loop.loop.invariant in
-    let l = at_test.loop-test.true in
-    (look-step p.rows-some (at_head at-index) p.more h.0 l at-reach.reach.ensures, omega arith)
+    let at-index = c.before.before.before.before.before.before.before in
+    let p = c.requires in
+    let h = c.loop-i.invariant in
+    let l = c.loop-i-test.true in
+    (look-step p.rows-some (at_head at-index) p.more h.0 l c.reach-last.ensures, omega arith)
 
-same_length : tie.Need-same-length invariant-loop decreases-loop
-same_length c = c.before.loop.invariant.0.onward.len
+same_length : tie.Need-shape_of-work invariant-loop decreases-loop
+same_length c = c.loop-i.invariant.0.onward.len
 
 returns : tie.Need-returns invariant-loop decreases-loop
 returns c =
-    let at-loop = c.before in
-    let at-index = at-loop.before.before in
-    let p = at-index.before.before.before.before.requires in
-    look-done p.rows-some (at_head at-index) p.more at-loop.loop.invariant.0 c.loop-test.false
+    let at-index = c.before.before.before in
+    let p = c.requires in
+    look-done p.rows-some (at_head at-index) p.more c.loop-i.invariant.0 c.loop-i-test.false
 
 pub look_spec : {M : Type 1} → statement M
 look_spec =
