@@ -7,35 +7,29 @@ use Rattle.audit.proofs.Tops.{crest-low, crest-told}
 use Rattle.audit.proofs.crest.Statement.{statement}
 use Rattle.audit.proofs.crest.Tie as tie
 
-returns : tie.Need-returns
+returns : tie.Need-returns-then-get-k
 returns c =
-    let at-get = c.before in
-    let a = at-get.before.before.before.args in
-    crest-low a.work.now a.n a.p a.k (omega (arith, at-get.get.ensures))
+    let a = c.args in
+    crest-low a.work.now a.n a.p a.k (omega (arith, c.get.ensures))
 
 top-requires : tie.Need-top-requires
 top-requires c κs =
-    let at-get = c.before.before in
-    let s = at-get.before.before.before in
-    let g = s.requires.0 in
+    let g = c.requires.0 in
     record {
       area = g.area;
       rows-some = g.rows-some;
       rows_few = g.rows_few;
-      cell = s.requires.1;
+      cell = c.requires.1;
       land = omega arith;
-      high = omega (arith, at-get.get.ensures);
+      high = omega (arith, c.get.ensures);
     }
 
-returns-2 : tie.Need-returns-2
+returns-2 : tie.Need-returns
 returns-2 c =
-    let at_top = c.before.before in
-    let at-get = at_top.before.before.before in
-    let s = at-get.before.before.before in
-    crest-told at_top.top.ensures s.requires.1 (add-one s.args.k) (omega (arith, at-get.get.ensures))
+    crest-told c.top.ensures c.requires.1 (add-one c.args.k) (omega (arith, c.get.ensures))
 
-pub crest-spec : {M : Type 1} → statement M
-crest-spec =
+pub crest_spec : {M : Type 1} → statement M
+crest_spec =
     tie.close
     (tie.spec (λ c κs. search rules) (λ c. search rules) returns (λ c. search rules) top-requires (λ c. search rules)
     returns-2)

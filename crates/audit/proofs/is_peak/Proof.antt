@@ -9,29 +9,24 @@ use Rattle.audit.proofs.Tops.{peak-blank, peak-told}
 use Rattle.audit.proofs.is_peak.Statement.{statement}
 use Rattle.audit.proofs.is_peak.Tie as tie
 
-returns : tie.Need-returns
+returns : tie.Need-returns-then-n-c
 returns c =
-    let a = c.before.before.args in
-    peak-blank a.work.now a.n a.c (cut-behind a.n (level_in a.work.now) a.c c.if1.true)
+    let a = c.args in
+    peak-blank a.work.now a.n a.c (cut-behind a.n (level_in a.work.now) a.c c.if-n-c.true)
 
-returns-2 : tie.Need-returns-2
+returns-2 : tie.Need-returns-then-level-eq0
 returns-2 c =
-    let at-get = c.before in
-    let at-if1 = at-get.before.before in
-    let a = at-if1.before.before.args in
+    let a = c.args in
     peak-blank a.work.now a.n a.c
-    (cut_below a.n (level_in a.work.now) a.c at-if1.if1.false ∙ sym at-get.get.ensures ∙ c.if2.true)
+    (cut_below a.n (level_in a.work.now) a.c c.if-n-c.false ∙ sym c.get-level.ensures ∙ c.if-level-eq0.true)
 
-returns-3 : tie.Need-returns-3
+returns-3 : tie.Need-returns
 returns-3 c =
-    let at_top = c.before.before in
-    let at-if2 = at_top.before.before in
-    let at-get = at-if2.before in
-    peak-told at_top.top.ensures at-get.before.before.if1.false (omega (arith, at-if2.if2.false))
-    at-get.get.ensures
+    peak-told c.top.ensures c.if-n-c.false (omega (arith, c.if-level-eq0.false))
+    c.get-level.ensures
 
-pub is-peak-spec : {M : Type 1} → statement M
-is-peak-spec =
+pub is_peak_spec : {M : Type 1} → statement M
+is_peak_spec =
     tie.close
     (tie.spec returns (λ c κs. search rules) (λ c. search rules) returns-2 (λ c κs. search rules) (λ c. search rules)
     returns-3)

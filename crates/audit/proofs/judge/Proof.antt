@@ -14,8 +14,8 @@ use Rattle.audit.proofs.Findings.{found-account}
 use Rattle.audit.proofs.judge.Statement.{statement}
 use Rattle.audit.proofs.judge.Tie as tie
 
-returns : tie.Need-returns
-returns c = found-outside c.if1.true
+returns : tie.Need-returns-then-n-p
+returns c = found-outside c.if-n-p.true
 
 -- ---- behind the flood
 
@@ -27,50 +27,43 @@ terrain : (c : tie.After-crest) → let a = (entry c).args in
 terrain c = let a = (entry c).args in cut-terrain a.rows a.n (level_in a.work.now)
 
 inside : (c : tie.After-crest) → (entry c).args.p < (entry c).args.n
-inside c = c.before.before.if1.false
+inside c = c.if-n-p.false
 
 accounts-requires : tie.Need-accounts-requires
 accounts-requires c κs =
     let at-crest = c.before.before.before.before in
     let s = entry at-crest in
-    let h = at-crest.crest.ensures in
-    let (l, best) = h.told.holds c.before.if2.true in
+    let h = c.crest.ensures in
+    let (l, best) = h.told.holds c.if-crest.true in
     let e = h.front s.args.p (inside at-crest) in
-    (auditing-behind s.pre h.behind, inside at-crest, omega arith)
+    (auditing-behind s.requires h.behind, inside at-crest, omega arith)
 
-returns-2 : tie.Need-returns-2
+returns-2 : tie.Need-returns-then-accounts
 returns-2 c =
-    let at-accounts = c.before.before.before in
-    let at-if2 = at-accounts.before.before in
-    let at-crest = at-if2.before.before.before in
-    found-account (terrain at-crest) (inside at-crest) at-crest.crest.ensures at-if2.if2.true
-    at-accounts.accounts.ensures c.if3.true
+    let at-crest = c.before.before.before.before.before.before.before.before in
+    found-account (terrain at-crest) (inside at-crest) c.crest.ensures c.if-crest.true
+    c.accounts.ensures c.if-accounts.true
 
-returns-3 : tie.Need-returns-3
+returns-3 : tie.Need-returns-then-crest
 returns-3 c =
-    let at-accounts = c.before.before.before in
-    let at-if2 = at-accounts.before.before in
-    let at-crest = at-if2.before.before.before in
-    found-other (terrain at-crest) (inside at-crest) at-crest.crest.ensures at-if2.if2.true
-    at-accounts.accounts.ensures c.if3.false
+    let at-crest = c.before.before.before.before.before.before.before.before in
+    found-other (terrain at-crest) (inside at-crest) c.crest.ensures c.if-crest.true
+    c.accounts.ensures c.if-accounts.false
 
-returns-4 : tie.Need-returns-4
+returns-4 : tie.Need-returns-then-is_peak
 returns-4 c =
-    let at-peak = c.before.before.before in
-    let at-if2 = at-peak.before.before in
-    let at-crest = at-if2.before.before.before in
-    found-peak (terrain at-crest) (inside at-crest) at-crest.crest.ensures at-peak.is-peak.ensures
-    at-if2.if2.false c.if4.true
+    let at-crest = c.before.before.before.before.before.before.before.before in
+    found-peak (terrain at-crest) (inside at-crest) c.crest.ensures c.is_peak.ensures
+    c.if-crest.false c.if-is_peak.true
 
-returns-5 : tie.Need-returns-5
+returns-5 : tie.Need-returns
 returns-5 c =
-    let at-peak = c.before.before.before in
-    let at-crest = at-peak.before.before.before.before.before in
-    found_none (terrain at-crest) (inside at-crest) at-crest.crest.ensures at-peak.is-peak.ensures
-    c.if4.false
+    let at-crest = c.before.before.before.before.before.before.before.before in
+    found_none (terrain at-crest) (inside at-crest) c.crest.ensures c.is_peak.ensures
+    c.if-is_peak.false
 
-pub judge-spec : {M : Type 1} → statement M
-judge-spec =
+pub judge_spec : {M : Type 1} → statement M
+judge_spec =
     tie.close
     (tie.spec returns (λ c κs. search rules) accounts-requires (λ c. search rules) returns-2 (λ c. search rules)
     returns-3 (λ c κs. search rules) (λ c. search rules) returns-4 (λ c. search rules) returns-5)

@@ -22,10 +22,10 @@ inside s h =
     let a = s.args in
     cut-land a.n (level_in a.work.now) (get_or a.path.now a.i 0) s.requires.land h.0
 
-returns : tie.Need-returns
+returns : tie.Need-returns-then-n-c
 returns c =
-    let at-index = c.before in
-    refuted (λ h. omega (arith, (inside at-index.before.before.before.before h).0, at-index.index.ensures))
+    let at-index = c.before.before.before.before.before in
+    refuted (λ h. omega (arith, (inside at-index h).0, c.index-c.ensures))
 
 -- ---- a cell
 
@@ -35,44 +35,42 @@ entry c = c.before.before.before.before.before.before
 level-is : (c : tie.After-get) → let a = (entry c).args in
     c.get.result ≡ level_in a.work.now (get_or a.path.now a.i 0)
 level-is c =
-    c.get.ensures ∙ ap (level_in (entry c).args.work.now) c.before.before.index.ensures
+    c.get.ensures ∙ ap (level_in (entry c).args.work.now) c.index-c.ensures
 
-returns-2 : tie.Need-returns-2
+returns-2 : tie.Need-returns-then-get-k
 returns-2 c =
     let at-get = c.before in
     refuted (λ h. omega (arith, (inside (entry at-get) h).1, level-is at-get))
 
-high : (c : tie.Else2) → let a = (entry c.before).args in
+high : (c : tie.Else-get-k) → let a = (entry c.before).args in
     a.k ≤ cut a.n (level_in a.work.now) (get_or a.path.now a.i 0)
 high c =
     let at-get = c.before in
     let a = (entry at-get).args in
-    let at-index = at-get.before.before in
-    let l : get_or a.path.now a.i 0 < a.n = omega (arith, at-index.index.ensures) in
+    let l : get_or a.path.now a.i 0 < a.n = omega (arith, c.index-c.ensures) in
     omega (arith, cut_below a.n (level_in a.work.now) (get_or a.path.now a.i 0) l, level-is at-get)
 
-returns-3 : tie.Need-returns-3
+returns-3 : tie.Need-returns-then-i-eq0
 returns-3 c = confirmed (high c.before, λ l. absurd (omega arith))
 
 -- ---- behind the path's begin
 
 touches-requires : tie.Need-touches-requires
 touches-requires c κs =
-    let at-if3 = c.before.before in
-    let s = entry at-if3.before.before in
-    let l = s.pre.last (omega (arith, at-if3.if3.false)) in
-    let few = s.pre.audited.area.few in
-    (s.pre.audited.rows-some, omega (arith, c.index2.ensures), omega arith)
+    let at-if3 = c.before.before.before.before in
+    let s = entry at-if3 in
+    let l = s.requires.last (omega (arith, c.if-i-eq0.false)) in
+    let few = s.requires.audited.area.few in
+    (s.requires.audited.rows-some, omega (arith, c.index.ensures), omega arith)
 
-returns-4 : tie.Need-returns-4
+returns-4 : tie.Need-returns
 returns-4 c =
-    let at-index2 = c.before in
-    let at-if2 = at-index2.before.before.before in
-    let d = rw (at-index2.index2.ensures, at-if2.before.before.before.index.ensures) at c.touches.ensures in
-    decides-iff (λ t. (high at-if2, λ l. t)) (λ h. h.1 (omega (arith, at-index2.before.before.if3.false))) d
+    let at-if2 = c.before.before.before.before in
+    let d = rw (c.index.ensures, c.index-c.ensures) at c.touches.ensures in
+    decides-iff (λ t. (high at-if2, λ l. t)) (λ h. h.1 (omega (arith, c.if-i-eq0.false))) d
 
-pub steps-spec : {M : Type 1} → statement M
-steps-spec =
+pub steps_spec : {M : Type 1} → statement M
+steps_spec =
     tie.close
     (tie.spec (λ c. search rules) (λ c. search rules) (λ c κs. search rules) returns (λ c κs. search rules) returns-2
     returns-3 (λ c. search rules) (λ c. search rules) (λ c. search rules) (λ c κs. search rules) touches-requires
