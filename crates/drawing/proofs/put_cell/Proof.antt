@@ -8,23 +8,20 @@ use Rattle.drawing.proofs.Islands.{reached-not, reached-yes}
 use Rattle.drawing.proofs.put_cell.Statement.{statement}
 use Rattle.drawing.proofs.put_cell.Tie as tie
 
-returns : tie.Need-returns
+returns : tie.Need-returns-then-n-index
 returns c =
-    let at-index = c.before in
-    let a = at-index.before.before.before.before.args in
-    left (reached-not a.work.now a.n a.c (at-index.index.ensures ∙ at-index.before.get.ensures)
-    c.if1.true) refl refl
+    let a = c.args in
+    left (reached-not a.work.now a.n a.c (c.index.ensures ∙ c.get.ensures)
+    c.if-n-index.true) refl refl
 
-returns-2 : tie.Need-returns-2
+returns-2 : tie.Need-returns
 returns-2 c =
-    let at-if1 = c.before in
-    let at-index = at-if1.before in
-    let a = at-index.before.before.before.before.args in
-    put (reached-yes a.work.now a.n a.c (at-index.index.ensures ∙ at-index.before.get.ensures)
-    at-if1.if1.false) refl (ap (λ (v : ℕ). set a.row.now a.count v) c.narrow.ensures)
+    let a = c.args in
+    put (reached-yes a.work.now a.n a.c (c.index.ensures ∙ c.get.ensures)
+    c.if-n-index.false) refl (ap (λ (v : ℕ). set a.row.now a.count v) c.narrow.ensures)
 
-pub put-cell-spec : {M : Type 1} → statement M
-put-cell-spec =
+pub put_cell_spec : {M : Type 1} → statement M
+put_cell_spec =
     tie.close
     (tie.spec (λ c. search rules) (λ c. search rules) (λ c κs. search rules) (λ c κs. search rules) returns
     (λ c κs. search rules) (λ c. search rules) (λ c. search rules) (λ c. search rules) (λ c. search rules) returns-2)

@@ -6,10 +6,7 @@ use Rattle.kin.proofs.enter.Tie as tie
 
 returns : tie.Need-returns
 returns c =
-    let at-put2 = c.before.before in
-    let at-put = at-put2.before.before.before.before in
-    let at-start = at-put.before.before.before in
-    stored-entry at-start.requires.1 at-put.put.ensures at-put2.put2.ensures
+    stored-entry c.requires.1 c.put.ensures c.put-2.ensures
 
 pub enter_spec : {M : Type 1} → statement M
 enter_spec =

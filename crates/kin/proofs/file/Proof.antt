@@ -11,30 +11,27 @@ use Rattle.kin.proofs.ListedCells.{listed-land, listed-key}
 use Rattle.kin.proofs.file.Statement.{statement}
 use Rattle.kin.proofs.file.Tie as tie
 
-returns : tie.Need-returns
+returns : tie.Need-returns-then-not-chosen
 returns c =
-    let k = c.before.chosen in left (sym k.ensures ∙ not-true k.result c.if1.true) refl
+    let k = c.chosen in left (sym k.ensures ∙ c.if-not-chosen.true) refl
 
 -- ---- where the cell is listed
 
 abbrev entry : tie.After-index → tie.Start
-entry c = c.before.before.before.before.before.before.before
+entry c = c.before.before.before.before.before
 
 listed_here : (c : tie.After-index) → let a = (entry c).args in
     listed a.work.now a.n a.threshold a.c ≡ true
 listed_here c =
-    let k = c.before.before.before in
-    sym k.before.chosen.ensures ∙ not-false k.before.chosen.result k.if1.false
+    sym c.chosen.ensures ∙ c.if-not-chosen.false
 
 parent_is : (c : tie.After-index) → let a = (entry c).args in c.index.result ≡ parent_in a.work.now a.n a.c
-parent_is c = c.index.ensures ∙ c.before.get.ensures
+parent_is c = c.index.ensures ∙ c.get.ensures
 
-returns-2 : tie.Need-returns-2
+returns-2 : tie.Need-returns-then-index-c
 returns-2 c =
-    let at-enter = c.before.before in
-    let at-if2 = at-enter.before.before in
-    let k = at-if2.before in
-    top (listed_here k) (sym (parent_is k) ∙ at-if2.if2.true) at-enter.enter.ensures
+    let k = c.before.before.before.before.before in
+    top (listed_here k) (sym (parent_is k) ∙ c.if-index-c.true) c.enter.ensures
 
 hang-requires : tie.Need-hang-requires
 hang-requires c κs =
@@ -43,7 +40,7 @@ hang-requires c κs =
     let s = a.work.now in
     let land = listed-land s a.n a.threshold a.c (listed_here k) in
     let lower =
-    listed-key s a.n a.threshold a.c (listed_here k) (λ e. c.before.if2.false (parent_is k ∙ e)) in
+    listed-key s a.n a.threshold a.c (listed_here k) (λ e. c.if-index-c.false (parent_is k ∙ e)) in
     record {
       area = (entry k).requires.area;
       cell = (entry k).requires.cell;
@@ -51,15 +48,13 @@ hang-requires c κs =
       apart = λ e. omega (arith, lower, ap (level_in s) e);
     }
 
-returns-3 : tie.Need-returns-3
+returns-3 : tie.Need-returns
 returns-3 c =
-    let at-hang = c.before.before in
-    let at-if2 = at-hang.before.before in
-    let k = at-if2.before in
-    hung (listed_here k) (λ e. at-if2.if2.false (parent_is k ∙ e)) at-hang.hang.ensures
+    let k = c.before.before.before.before.before in
+    hung (listed_here k) (λ e. c.if-index-c.false (parent_is k ∙ e)) c.hang.ensures
 
-pub file-spec : {M : Type 1} → statement M
-file-spec =
+pub file_spec : {M : Type 1} → statement M
+file_spec =
     tie.close
     (tie.spec (λ c κs. search rules) (λ c. search rules) returns (λ c. search rules) (λ c. search rules)
     (λ c κs. search rules) (λ c κs. search rules) (λ c κs. search rules) (λ c. search rules) returns-2 hang-requires

@@ -7,19 +7,16 @@ use Rattle.kin.proofs.first.Statement.{statement}
 use Rattle.kin.proofs.first.Tie as tie
 
 narrow-requires : tie.Need-narrow-requires
-narrow-requires c κs = omega (arith, c.cell_in.ensures, cell_below c.before.before.before.args.w)
+narrow-requires c κs = omega (arith, c.cell_in.ensures, cell_below c.args.w)
 
-returns : tie.Need-returns
+returns : tie.Need-returns-then-mark_in
 returns c =
-    let at-if = c.before.before in
-    let at-mark-in = at-if.before in
-    c.narrow.ensures ∙ c.before.cell_in.ensures
-    ∙ sym (first-marked at-mark-in.before.args.w (sym at-mark-in.mark-in.ensures ∙ at-if.if1.true))
+    c.narrow.ensures ∙ c.cell_in.ensures
+    ∙ sym (first-marked c.args.w (sym c.mark_in.ensures ∙ c.if-mark_in.true))
 
-returns-2 : tie.Need-returns-2
+returns-2 : tie.Need-returns
 returns-2 c =
-    let at-mark-in = c.before in
-    sym (first_plain at-mark-in.before.args.w (sym at-mark-in.mark-in.ensures ∙ c.if1.false))
+    sym (first_plain c.args.w (sym c.mark_in.ensures ∙ c.if-mark_in.false))
 
 pub first_spec : {M : Type 1} → statement M
 first_spec =

@@ -12,51 +12,48 @@ use Rattle.kin.proofs.hang.Tie as tie
 
 -- ---- where the pass is read
 
-abbrev entry : tie.After-cell-in → tie.Start
-entry c = c.before.before.before.before
+abbrev entry : tie.After-cell_in-x → tie.Start
+entry c = c.before.before.before
 
-pass-is : (c : tie.After-cell-in) → let a = (entry c).args in
-    c.cell_in.result ≡ pass_of a.work.now a.n a.c
-pass-is c = c.cell_in.ensures ∙ ap cell_in c.before.get.ensures
+pass-is : (c : tie.After-cell_in-x) → let a = (entry c).args in
+    c.cell_in-x.result ≡ pass_of a.work.now a.n a.c
+pass-is c = c.cell_in-x.ensures ∙ ap cell_in c.get.ensures
 
-pass_below : (c : tie.After-cell-in) → c.cell_in.result < (entry c).args.n
+pass_below : (c : tie.After-cell_in-x) → c.cell_in-x.result < (entry c).args.n
 pass_below c = omega (arith, pass-is c, (entry c).requires.pass)
 
-abbrev cell-in-of : tie.After-enter → tie.After-cell-in
-cell-in-of c = c.before.before.before.before.before
+abbrev cell-in-of : tie.After-enter → tie.After-cell_in-x
+cell-in-of c = c.before.before.before.before
 
 -- ---- the answers
 
-add-get-2 : tie.Need-overflow-add-get-2
-add-get-2 c = let k = c.before.before in omega (arith, pass_below k, (entry k).requires.area.few)
+add-get-2 : tie.Need-overflow_add-n-2
+add-get-2 c = let k = c.before in omega (arith, pass_below k, (entry k).requires.area.few)
 
 get-requires-2 : tie.Need-get-requires-2
-get-requires-2 c κs = let k = c.before.before in omega (arith, pass_below k, (entry k).requires.area.room)
+get-requires-2 c κs = let k = c.before in omega (arith, pass_below k, (entry k).requires.area.room)
 
-add-put : tie.Need-overflow-add-put
-add-put c = let k = cell-in-of c.before.before.before in omega (arith, pass_below k, (entry k).pre.area.few)
+add-put : tie.Need-overflow_add-n-3
+add-put c = let k = cell-in-of c.before.before.before in omega (arith, pass_below k, (entry k).requires.area.few)
 
 put-requires : tie.Need-put-requires
 put-requires c κs =
     let at-enter = c.before.before.before.before in
     let k = cell-in-of at-enter in
-    omega (arith, pass_below k, (entry k).pre.area.room, at-enter.enter.ensures.len)
+    omega (arith, pass_below k, (entry k).requires.area.room, c.enter.ensures.len)
 
 returns : tie.Need-returns
 returns c =
-    let at-put = c.before.before in
-    let at-narrow = at-put.before in
-    let at-enter = at-narrow.before.before.before.before in
-    let at_first = at-enter.before in
+    let at-enter = c.before.before.before.before.before.before.before in
     let k = cell-in-of at-enter in
     let a = (entry k).args in
     subst (Filed a.work.now _ a.n a.c) (pass-is k)
-    (stored-peak (pass_below k) (λ e. (entry k).pre.apart (sym (pass-is k) ∙ e))
-    (at_first.first.ensures ∙ ap first_in at_first.before.get2.ensures)
-    (omega (arith, at-narrow.narrow.ensures)) at-enter.enter.ensures at-put.put.ensures)
+    (stored-peak (pass_below k) (λ e. (entry k).requires.apart (sym (pass-is k) ∙ e))
+    (c.first.ensures ∙ ap first_in c.get-2.ensures)
+    (omega (arith, c.narrow.ensures)) c.enter.ensures c.put.ensures)
 
-pub hang-spec : {M : Type 1} → statement M
-hang-spec =
+pub hang_spec : {M : Type 1} → statement M
+hang_spec =
     tie.close
     (tie.spec (λ c. search rules) (λ c. search rules) (λ c κs. search rules) (λ c κs. search rules) (λ c. search rules)
     add-get-2 get-requires-2 (λ c κs. search rules) (λ c κs. search rules) (λ c. search rules) add-put

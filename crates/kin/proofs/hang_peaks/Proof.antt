@@ -7,42 +7,37 @@ use Rattle.kin.proofs.PeaksHung.{hung-start, hung-choosing, hung-step, hung-back
 use Rattle.kin.proofs.hang_peaks.Statement.{statement}
 use Rattle.kin.proofs.hang_peaks.Tie as tie
 
-abbrev invariant-loop : tie.invariant-loop
+abbrev invariant-loop : tie.invariant-loop-c
 invariant-loop work₀ n threshold c₀ work c = Hung work₀ work n threshold c
 
-abbrev decreases-loop : tie.decreases-loop
+abbrev decreases-loop : tie.decreases-loop-c
 decreases-loop work₀ n threshold c₀ work c = c
 
-loop-holds : tie.Need-loop-init invariant-loop decreases-loop
-loop-holds c = hung-start c.before.requires
+loop-holds : tie.Need-loop-c-init invariant-loop decreases-loop
+loop-holds c = hung-start c.requires
 
-sub-c : tie.Need-overflow-sub-c invariant-loop decreases-loop
+sub-c : tie.Need-overflow_sub-c invariant-loop decreases-loop
 sub-c c = omega arith
 
 file-requires : tie.Need-file-requires invariant-loop decreases-loop
 file-requires c κs =
-    let at_test = c.before in
-    let at-loop = at_test.before in
-    hung-choosing at-loop.before.before.requires (hung-back at_test.loop-test.true at-loop.loop.invariant)
+    hung-choosing c.requires (hung-back c.loop-c-test.true c.loop-c.invariant)
 
-loop-less : tie.Need-loop-smaller invariant-loop decreases-loop
+loop-less : tie.Need-loop-c-smaller invariant-loop decreases-loop
 loop-less c = omega arith
 
-loop-again : tie.Need-loop-preserved invariant-loop decreases-loop
+loop-again : tie.Need-loop-c-preserved invariant-loop decreases-loop
 loop-again c =
-    let at-file = c.before.before in
-    let at_test = at-file.before.before in
-    let at-loop = at_test.before in
-    hung-step at-loop.before.before.requires (hung-back at_test.loop-test.true at-loop.loop.invariant)
-    at-file.file.ensures
+    hung-step c.requires (hung-back c.loop-c-test.true c.loop-c.invariant)
+    c.file.ensures
 
-same_length : tie.Need-same-length invariant-loop decreases-loop
-same_length c = c.before.loop.invariant.kept.len
+same_length : tie.Need-shape_of-work invariant-loop decreases-loop
+same_length c = c.loop-c.invariant.kept.len
 
 returns : tie.Need-returns invariant-loop decreases-loop
-returns c = hung-done c.loop-test.false c.before.loop.invariant
+returns c = hung-done c.loop-c-test.false c.loop-c.invariant
 
-pub hang-peaks-spec : {M : Type 1} → statement M
-hang-peaks-spec =
+pub hang_peaks_spec : {M : Type 1} → statement M
+hang_peaks_spec =
     tie.close
     (tie.spec invariant-loop decreases-loop loop-holds sub-c file-requires loop-less loop-again same_length returns)

@@ -24,19 +24,18 @@ module _ (s : List ℕ) (n c : ℕ) where
       let land = ltb 0 (level_in s c) in
       f ∙ sym (ap (λ (b : Bool). land && b) (eq-eqb (parent_in s n c) 8388608 e) ∙ and-true land)
 
-returns : tie.Need-returns
+returns : tie.Need-returns-then-get-ne-TOP
 returns c =
-    let a = c.before.before.before.args in
-    top-other a.work.now a.n a.c (λ e. c.if1.true (c.before.get.ensures ∙ e))
+    let a = c.args in
+    top-other a.work.now a.n a.c (λ e. c.if-get-ne-TOP.true (c.get.ensures ∙ e))
 
-returns-2 : tie.Need-returns-2
+returns-2 : tie.Need-returns
 returns-2 c =
-    let at-if1 = c.before in
-    let a = at-if1.before.before.before.args in
-    top-linked a.work.now a.n a.c (sym at-if1.before.get.ensures ∙ at-if1.if1.false)
-    (ap (ltb 0) c.get2.ensures)
+    let a = c.args in
+    top-linked a.work.now a.n a.c (sym c.get.ensures ∙ c.if-get-ne-TOP.false)
+    (ap (ltb 0) c.get-2.ensures)
 
-pub is-top-spec : {M : Type 1} → statement M
-is-top-spec =
+pub is_top_spec : {M : Type 1} → statement M
+is_top_spec =
     tie.close
     (tie.spec (λ c. search rules) (λ c. search rules) (λ c κs. search rules) returns (λ c κs. search rules) returns-2)

@@ -10,35 +10,28 @@ use Rattle.kin.proofs.Kinship.{kin-linked, kin-blank}
 use Rattle.kin.proofs.link.Statement.{statement}
 use Rattle.kin.proofs.link.Tie as tie
 
-returns : tie.Need-returns
+returns : tie.Need-returns-then-m-eq0
 returns c =
-    let at-start = c.before.before in
-    let a = at-start.args in
-    kin-blank a.threshold (cut-terrain a.rows a.n (level_in a.work.now)) at-start.requires c.if1.true
-    c.before.slice-known.given
+    let a = c.args in
+    kin-blank a.threshold (cut-terrain a.rows a.n (level_in a.work.now)) c.requires c.if-m-eq0.true
+    c.slice_known-1.given
 
-hang-peaks-requires : tie.Need-hang-peaks-requires
+hang-peaks-requires : tie.Need-hang_peaks-requires
 hang-peaks-requires c κs =
-    let at-start = c.before.before.before in
-    let a = at-start.args in
-    uppers-hanging (cut-terrain a.rows a.n (level_in a.work.now)) at-start.requires a.threshold
+    let a = c.args in
+    uppers-hanging (cut-terrain a.rows a.n (level_in a.work.now)) c.requires a.threshold
 
-thread-passes-requires : tie.Need-thread-passes-requires
+thread-passes-requires : tie.Need-thread_passes-requires
 thread-passes-requires c κs =
-    let at-hang-peaks = c.before.before.before in
-    let at-start = at-hang-peaks.before.before.before.before in
-    let a = at-start.args in
-    rows-threading (cut-terrain a.rows a.n (level_in a.work.now)) at-start.requires
-    at-hang-peaks.hang-peaks.ensures
+    let a = c.args in
+    rows-threading (cut-terrain a.rows a.n (level_in a.work.now)) c.requires
+    c.hang_peaks.ensures
 
-returns-2 : tie.Need-returns-2
+returns-2 : tie.Need-returns
 returns-2 c =
-    let at-thread-passes = c.before.before in
-    let at-hang-peaks = at-thread-passes.before.before.before.before in
-    let at-start = at-hang-peaks.before.before.before.before in
-    let a = at-start.args in
-    kin-linked (cut-terrain a.rows a.n (level_in a.work.now)) at-start.requires
-    at-hang-peaks.hang-peaks.ensures at-thread-passes.thread-passes.ensures c.slice-known3.given
+    let a = c.args in
+    kin-linked (cut-terrain a.rows a.n (level_in a.work.now)) c.requires
+    c.hang_peaks.ensures c.thread_passes.ensures c.slice_known-3-1.given
 
-pub link-spec : {M : Type 1} → statement M
-link-spec = tie.close (tie.spec returns hang-peaks-requires thread-passes-requires (λ c. search rules) returns-2)
+pub link_spec : {M : Type 1} → statement M
+link_spec = tie.close (tie.spec returns hang-peaks-requires thread-passes-requires (λ c. search rules) returns-2)

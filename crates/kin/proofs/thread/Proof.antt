@@ -12,70 +12,68 @@ use Rattle.kin.proofs.Stores.{stored-pass}
 use Rattle.kin.proofs.thread.Statement.{statement}
 use Rattle.kin.proofs.thread.Tie as tie
 
-abbrev mark-entry : tie.After-mark-in → tie.Start
-mark-entry c = c.before.before.before.before
+abbrev mark-entry : tie.After-mark_in → tie.Start
+mark-entry c = c.before.before.before
 
-mark-is : (c : tie.After-mark-in) → let a = (mark-entry c).args in
-    c.mark-in.result ≡ mark_in (parent_in a.work.now a.n a.x)
-mark-is c = c.mark-in.ensures ∙ ap mark_in c.before.get.ensures
+mark-is : (c : tie.After-mark_in) → let a = (mark-entry c).args in
+    c.mark_in.result ≡ mark_in (parent_in a.work.now a.n a.x)
+mark-is c = c.mark_in.ensures ∙ ap mark_in c.get.ensures
 
-returns : tie.Need-returns
-returns c = let k = c.before in left (sym (mark-is k) ∙ not-true k.mark-in.result c.if1.true) refl
+returns : tie.Need-returns-then-not-mark_in
+returns c = let k = c.before in left (sym (mark-is k) ∙ c.if-not-mark_in.true) refl
 
 -- ---- where the upper peak is read
 
-abbrev mark_of : tie.After-cell-in → tie.After-mark-in
-mark_of c = c.before.before.before.before
+abbrev mark_of : tie.After-cell_in-q → tie.After-mark_in
+mark_of c = c.before.before.before
 
-abbrev entry : tie.After-cell-in → tie.Start
-entry c = mark-entry (mark_of c)
+abbrev entry : tie.After-cell_in-q → tie.Start
+entry c = c.before.before.before.before.before.before
 
-marked : (c : tie.After-cell-in) → let a = (entry c).args in mark_in (parent_in a.work.now a.n a.x) ≡ true
+marked : (c : tie.After-cell_in-q) → let a = (entry c).args in mark_in (parent_in a.work.now a.n a.x) ≡ true
 marked c =
     let k = c.before.before.before in
-    sym (mark-is k.before) ∙ not-false k.before.mark-in.result k.if1.false
+    sym (mark-is k) ∙ c.if-not-mark_in.false
 
-upper_is : (c : tie.After-cell-in) → let a = (entry c).args in
-    c.cell_in.result ≡ pass_of a.work.now a.n a.x
-upper_is c = c.cell_in.ensures ∙ ap cell_in c.before.get2.ensures
+upper_is : (c : tie.After-cell_in-q) → let a = (entry c).args in
+    c.cell_in-q.result ≡ pass_of a.work.now a.n a.x
+upper_is c = c.cell_in-q.ensures ∙ ap cell_in c.get-2.ensures
 
-upper-below : (c : tie.After-cell-in) → c.cell_in.result < (entry c).args.n
+upper-below : (c : tie.After-cell_in-q) → c.cell_in-q.result < (entry c).args.n
 upper-below c = omega (arith, upper_is c, ((entry c).requires.upper (marked c)).0)
 
-abbrev cell-in-of : tie.After-put → tie.After-cell-in
-cell-in-of c = c.before.before.before.before
+abbrev cell-in-of : tie.After-put → tie.After-cell_in-q
+cell-in-of c = c.before.before.before
 
 -- ---- the answers
 
-add-get-3 : tie.Need-overflow-add-get-3
-add-get-3 c = let k = c.before.before in omega (arith, upper-below k, (entry k).requires.area.few)
+add-get-3 : tie.Need-overflow_add-n-4
+add-get-3 c = let k = c.before in omega (arith, upper-below k, (entry k).requires.area.few)
 
 get-requires-3 : tie.Need-get-requires-3
-get-requires-3 c κs = let k = c.before.before in omega (arith, upper-below k, (entry k).requires.area.room)
+get-requires-3 c κs = let k = c.before in omega (arith, upper-below k, (entry k).requires.area.room)
 
-add-put-2 : tie.Need-overflow-add-put-2
+add-put-2 : tie.Need-overflow_add-n-5
 add-put-2 c =
-    let k = cell-in-of c.before.before.before in omega (arith, upper-below k, (entry k).pre.area.few)
+    let k = cell-in-of c.before.before.before in omega (arith, upper-below k, (entry k).requires.area.few)
 
 put-requires-2 : tie.Need-put-requires-2
 put-requires-2 c κs =
     let at-put = c.before.before.before.before in
     let k = cell-in-of at-put in
-    omega (arith, upper-below k, (entry k).pre.area.room, at-put.put.ensures.len)
+    omega (arith, upper-below k, (entry k).requires.area.room, c.put.ensures.len)
 
-returns-2 : tie.Need-returns-2
+returns-2 : tie.Need-returns
 returns-2 c =
-    let at-put2 = c.before.before in
-    let at-narrow = at-put2.before in
-    let at-put = at-narrow.before.before.before.before in
+    let at-put = c.before.before.before.before.before.before.before in
     let k = cell-in-of at-put in
     let a = (entry k).args in
     put (marked k) (subst (Put a.work.now _ a.n a.x) (upper_is k)
-    (stored-pass (λ e. ((entry k).pre.upper (marked k)).1 (sym (upper_is k) ∙ e)) at-put.before.get3.ensures
-    at-narrow.narrow.ensures at-put.put.ensures at-put2.put2.ensures))
+    (stored-pass (λ e. ((entry k).requires.upper (marked k)).1 (sym (upper_is k) ∙ e)) c.get-3.ensures
+    c.narrow.ensures c.put.ensures c.put-2.ensures))
 
-pub thread-spec : {M : Type 1} → statement M
-thread-spec =
+pub thread_spec : {M : Type 1} → statement M
+thread_spec =
     tie.close
     (tie.spec (λ c. search rules) (λ c. search rules) (λ c κs. search rules) (λ c κs. search rules) (λ c. search rules)
     returns (λ c. search rules) (λ c. search rules) (λ c κs. search rules) (λ c κs. search rules) (λ c. search rules)

@@ -11,59 +11,50 @@ use Rattle.kin.proofs.PassesThreaded.{threaded-done}
 use Rattle.kin.proofs.thread_passes.Statement.{statement}
 use Rattle.kin.proofs.thread_passes.Tie as tie
 
-abbrev invariant-loop : tie.invariant-loop
+abbrev invariant-loop : tie.invariant-loop-i
 invariant-loop work₀ n m i₀ work i = Threaded work₀ work n m i
 
-abbrev decreases-loop : tie.decreases-loop
+abbrev decreases-loop : tie.decreases-loop-i
 decreases-loop work₀ n m i₀ work i = i
 
-loop-holds : tie.Need-loop-init invariant-loop decreases-loop
-loop-holds c = let s = c.before.args in threaded-start s.work.now s.n s.m
+loop-holds : tie.Need-loop-i-init invariant-loop decreases-loop
+loop-holds c = let s = c.args in threaded-start s.work.now s.n s.m
 
-sub-i : tie.Need-overflow-sub-i invariant-loop decreases-loop
+sub-i : tie.Need-overflow_sub-i invariant-loop decreases-loop
 sub-i c = omega arith
 
-add-get : tie.Need-overflow-add-get invariant-loop decreases-loop
+add-get : tie.Need-overflow_add-n invariant-loop decreases-loop
 add-get c =
-    let at-loop = c.before.before.before in
-    let p = at-loop.before.before.requires in
-    omega (arith, at-loop.loop.invariant.below, p.ordered.few, p.area.few)
+    let p = c.requires in
+    omega (arith, c.loop-i.invariant.below, p.ordered.few, p.area.few)
 
 get-requires : tie.Need-get-requires invariant-loop decreases-loop
 get-requires c κs =
-    let at_test = c.before.before in
-    let at-loop = at_test.before in
-    let p = at-loop.before.before.requires in
-    let h = at-loop.loop.invariant in
-    omega (arith, at_test.loop-test.true, h.below, h.len, p.ordered.few, p.area.room)
+    let p = c.requires in
+    let h = c.loop-i.invariant in
+    omega (arith, c.loop-i-test.true, h.below, h.len, p.ordered.few, p.area.room)
 
 thread-requires : tie.Need-thread-requires invariant-loop decreases-loop
 thread-requires c κs =
-    let at_test = c.before.before.before.before in
-    let at-loop = at_test.before in
-    threaded-asked at-loop.before.before.requires (threaded-back at_test.loop-test.true at-loop.loop.invariant)
-    (c.cell_in.ensures ∙ ap cell_in c.before.get.ensures)
+    threaded-asked c.requires (threaded-back c.loop-i-test.true c.loop-i.invariant)
+    (c.cell_in.ensures ∙ ap cell_in c.get.ensures)
 
-loop-less : tie.Need-loop-smaller invariant-loop decreases-loop
+loop-less : tie.Need-loop-i-smaller invariant-loop decreases-loop
 loop-less c = omega arith
 
-loop-again : tie.Need-loop-preserved invariant-loop decreases-loop
+loop-again : tie.Need-loop-i-preserved invariant-loop decreases-loop
 loop-again c =
-    let at-thread = c.before.before in
-    let at-cell-in = at-thread.before in
-    let at_test = at-cell-in.before.before.before.before in
-    let at-loop = at_test.before in
-    threaded-step at-loop.before.before.requires (threaded-back at_test.loop-test.true at-loop.loop.invariant)
-    (at-cell-in.cell_in.ensures ∙ ap cell_in at-cell-in.before.get.ensures) at-thread.thread.ensures
+    threaded-step c.requires (threaded-back c.loop-i-test.true c.loop-i.invariant)
+    (c.cell_in.ensures ∙ ap cell_in c.get.ensures) c.thread.ensures
 
-same_length : tie.Need-same-length invariant-loop decreases-loop
-same_length c = c.before.loop.invariant.len
+same_length : tie.Need-shape_of-work invariant-loop decreases-loop
+same_length c = c.loop-i.invariant.len
 
 returns : tie.Need-returns invariant-loop decreases-loop
-returns c = threaded-done c.loop-test.false c.before.loop.invariant
+returns c = threaded-done c.loop-i-test.false c.loop-i.invariant
 
-pub thread-passes-spec : {M : Type 1} → statement M
-thread-passes-spec =
+pub thread_passes_spec : {M : Type 1} → statement M
+thread_passes_spec =
     tie.close
     (tie.spec invariant-loop decreases-loop loop-holds sub-i add-get get-requires (λ c κs. search rules) thread-requires loop-less
     loop-again same_length returns)
