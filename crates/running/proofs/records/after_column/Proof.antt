@@ -6,15 +6,15 @@ use Rattle.running.specs.Running.{column_run}
 use Rattle.running.proofs.records.after_column.Statement.{statement}
 use Rattle.running.proofs.records.after_column.Tie as tie
 
-returns : tie.Need-returns
+returns : tie.Need-returns-in-Count
 returns c =
-    let run = c.before.before.before.args.run in
-    c.with-column.ensures ∙ ap (λ (h : Handed). column_run h run) (sym c.before.enum_told.given.1)
+    let run = c.args.run in
+    c.with_column.ensures ∙ ap (λ (h : Handed). column_run h run) (sym c.in-Count.is)
 
 -- At a refusal the record is as it came.
-returns-2 : tie.Need-returns-2
+returns-2 : tie.Need-returns-in-Refused
 returns-2 c = search rules
 
-pub after-column-spec : {M : Type 1} → statement M
-after-column-spec =
+pub after_column_spec : {M : Type 1} → statement M
+after_column_spec =
     tie.close (tie.spec (λ c. search rules) (λ c κs. search rules) (λ c. search rules) returns returns-2)

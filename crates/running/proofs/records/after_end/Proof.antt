@@ -6,12 +6,12 @@ use Rattle.running.specs.Running.{end_run}
 use Rattle.running.proofs.records.after_end.Statement.{statement}
 use Rattle.running.proofs.records.after_end.Tie as tie
 
-returns : tie.Need-returns
+returns : tie.Need-returns-in-Count
 returns c =
-    let run = c.before.before.before.args.run in
-    c.with-end.ensures ∙ ap (λ (h : Handed). end_run h run) (sym c.before.enum_told.given.1)
+    let run = c.args.run in
+    c.with_end.ensures ∙ ap (λ (h : Handed). end_run h run) (sym c.in-Count.is)
 
-pub after-end-spec : {M : Type 1} → statement M
-after-end-spec =
+pub after_end_spec : {M : Type 1} → statement M
+after_end_spec =
     tie.close
     (tie.spec (λ c. search rules) (λ c κs. search rules) (λ c. search rules) returns (λ c. search rules))

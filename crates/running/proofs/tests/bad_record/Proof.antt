@@ -20,15 +20,15 @@ module _ (run : Run) (grid : ℕ) {h : ℕ} (e : h ≡ held_of run) where
   within-grid l =
       sym (ap (λ (b : Bool). b || ltb 1048576 h) (le-ltb grid h l)) ∙ ap (λ (k : ℕ). ltb grid k || ltb 1048576 k) e
 
-returns : tie.Need-returns
+returns : tie.Need-returns-then-grid-held
 returns c =
-    let a = c.before.before.args in
-    beyond-grid a.run a.grid c.before.held-cells.ensures c.if1.true
+    let a = c.args in
+    beyond-grid a.run a.grid c.held_cells-held.ensures c.if-grid-held.true
 
-returns-2 : tie.Need-returns-2
+returns-2 : tie.Need-returns
 returns-2 c =
-    let a = c.before.before.args in
-    within-grid a.run a.grid c.before.held-cells.ensures c.if1.false
+    let a = c.args in
+    within-grid a.run a.grid c.held_cells-held.ensures c.if-grid-held.false
 
-pub bad-record-spec : {M : Type 1} → statement M
-bad-record-spec = tie.close (tie.spec (λ c κs. search rules) returns returns-2)
+pub bad_record_spec : {M : Type 1} → statement M
+bad_record_spec = tie.close (tie.spec (λ c κs. search rules) returns returns-2)

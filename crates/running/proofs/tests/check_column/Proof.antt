@@ -4,27 +4,24 @@ use Rattle.running.proofs.Checks.{sum_fits, column-made}
 use Rattle.running.proofs.tests.check_column.Statement.{statement}
 use Rattle.running.proofs.tests.check_column.Tie as tie
 
-add-n : tie.Need-overflow-add-n
+add-n : tie.Need-overflow_add-n
 add-n c =
     record {
       fits =
-          sum_fits c.before.before.args.run c.held-cells.ensures c.before.index.ensures (search rules)
+          sum_fits c.args.run c.held_cells.ensures c.index-rows.ensures (search rules)
           (search rules);
     }
 
 returns : tie.Need-returns
 returns c =
-    let at-third = c.before.before.before in
-    let at-run = at-third.before.before.before in
-    let at-index = at-run.before.before in
-    let a = at-index.before.args in
-    column-made a.run a.grid a.work at-run.check-run.ensures at-third.before.before.then-test.ensures
-    a.offered at-run.before.held-cells.ensures at-index.index.ensures c.before.short-work.ensures
-    at-third.before.then-test2.ensures at-third.then-test3.ensures c.before.before.then-test4.ensures
-    c.then-test5.ensures
+    let a = c.args in
+    column-made a.run a.grid a.work c.check_run-checked.ensures c.then_test-checked.ensures
+    a.offered c.held_cells.ensures c.index-rows.ensures c.short_work.ensures
+    c.then_test-checked-2.ensures c.then_test-checked-3.ensures c.then_test-checked-4.ensures
+    c.then_test.ensures
 
-pub check-column-spec : {M : Type 1} → statement M
-check-column-spec =
+pub check_column_spec : {M : Type 1} → statement M
+check_column_spec =
     tie.close
     (tie.spec (λ c κs. search rules) (λ c κs. search rules) add-n (λ c κs. search rules) (λ c κs. search rules)
     (λ c κs. search rules) (λ c κs. search rules) (λ c κs. search rules) (λ c κs. search rules)

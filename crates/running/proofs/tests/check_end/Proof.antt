@@ -6,13 +6,12 @@ use Rattle.running.proofs.tests.check_end.Tie as tie
 
 returns : tie.Need-returns
 returns c =
-    let at_ended = c.before.before.before in
-    let a = at_ended.before.before.args in
-    end-made a.run a.grid a.work at_ended.before.check-run.ensures at_ended.then-test.ensures
-    c.before.before.held-cells.ensures c.before.short-work.ensures c.then-test2.ensures
+    let a = c.args in
+    end-made a.run a.grid a.work c.check_run-checked.ensures c.then_test-checked.ensures
+    c.held_cells.ensures c.short_work.ensures c.then_test.ensures
 
-pub check-end-spec : {M : Type 1} → statement M
-check-end-spec =
+pub check_end_spec : {M : Type 1} → statement M
+check_end_spec =
     tie.close
     (tie.spec (λ c κs. search rules) (λ c κs. search rules) (λ c κs. search rules) (λ c κs. search rules)
     (λ c κs. search rules) returns)

@@ -6,12 +6,11 @@ use Rattle.running.proofs.tests.check_run.Tie as tie
 
 returns : tie.Need-returns
 returns c =
-    let at_rows = c.before.before.before in
-    let a = at_rows.before.args in
-    run-made a.run a.grid at_rows.bad-rows.ensures c.before.bad-record.ensures
-    c.before.before.then-test.ensures c.then-test2.ensures
+    let a = c.args in
+    run-made a.run a.grid c.bad_rows.ensures c.bad_record.ensures
+    c.then_test-checked.ensures c.then_test.ensures
 
-pub check-run-spec : {M : Type 1} → statement M
-check-run-spec =
+pub check_run_spec : {M : Type 1} → statement M
+check_run_spec =
     tie.close
     (tie.spec (λ c κs. search rules) (λ c κs. search rules) (λ c κs. search rules) (λ c κs. search rules) returns)
