@@ -7,23 +7,20 @@ use Rattle.account.proofs.Answers.{account-refused}
 use Rattle.account.proofs.account.Statement.{statement}
 use Rattle.account.proofs.account.Tie as tie
 
-account-good-requires : tie.Need-account-good-requires
+account-good-requires : tie.Need-account_good-requires
 account-good-requires c κs =
-    let at_told = c.before.before.before in
-    let at-check = at_told.before.before in
-    let a = at-check.before.before.before.before.args in
+    let a = c.args in
     grid-good a.rows (length a.heights.now) (length a.work.now)
-    (sym at-check.check.ensures ∙ at_told.enum_told.given.1)
+    (sym c.check-checked.ensures ∙ c.in-Good.is)
 
-returns : tie.Need-returns
+returns : tie.Need-returns-in-Bad
 returns c =
-    let at-check = c.before.before.before in
-    let a = at-check.before.before.before.before.args in
+    let a = c.args in
     account-refused a.rows a.heights.now a.cell a.work.now a.path.now a.island.now
-    (sym at-check.check.ensures ∙ c.before.checked.given.1) refl
+    (sym c.check-checked.ensures ∙ c.in-Bad.is) refl
 
-pub account-spec : {M : Type 1} → statement M
-account-spec =
+pub account_spec : {M : Type 1} → statement M
+account_spec =
     tie.close
     (tie.spec (λ c κs. search rules) (λ c. search rules) (λ c. search rules) account-good-requires returns
     (λ c. search rules) (λ c. search rules) (λ c. search rules) (λ c. search rules))

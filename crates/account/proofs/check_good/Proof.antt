@@ -11,53 +11,41 @@ use Rattle.account.proofs.check_good.Statement.{statement}
 use Rattle.account.proofs.check_good.Tie as tie
 
 load-requires : tie.Need-load-requires
-load-requires c κs = grid-loading c.before.before.before.before.requires refl refl
+load-requires c κs = grid-loading c.requires refl refl
 
-judge-requires : tie.Need-judge-requires
+judge-requires : tie.Need-judge-finding-requires
 judge-requires c κs =
-    let at_load = c.before.before.before.before.before.before in
-    let at-start = at_load.before.before.before.before.before in
-    grid-auditing at-start.requires refl at_load.load.ensures c.before.index.ensures
+    grid-auditing c.requires refl c.load.ensures c.index.ensures
 
 -- what the check has found
-found : (c : tie.After-slice-known3)
-    → let at_load = c.before.before.before.before.before.before.before.before.before in
-    let a = at_load.before.before.before.before.before.args in
+found : (c : tie.After-slice_known-3-1)
+    →
+    let a = c.args in
     Checked a.rows a.heights.now a.cell a.key a.path.now a.island.now a.work.now
-    c.before.before.judge.new.0 c.before.before.judge.result
+    c.judge-finding.new.work c.judge-finding.result
 found c =
-    let at-judge = c.before.before in
-    let at_level = at-judge.before.before.before.before in
-    let at_load = at_level.before.before.before in
-    let s = at_load.before.before.before.before.before in
-    checked refl at-judge.before.before.index.ensures at-judge.before.index2.ensures
-    (at_level.level.ensures ∙ ap level_of (to_z-of_z w32 s.args.key s.ranges.key))
-    at_load.load.ensures
-    at-judge.judge.ensures at_level.before.slice-known2.given c.slice-known3.given
+    checked refl c.index.ensures c.index-2.ensures
+    (c.level-k.ensures ∙ ap level_of (to_z-of_z w32 c.args.key c.ranges.key))
+    c.load.ensures
+    c.judge-finding.ensures c.slice_known-2-1.given c.slice_known-3-1.given
 
-returns : tie.Need-returns
+returns : tie.Need-returns-in-NoPeak
 returns c =
-    let at-found = c.before.before in
-    let at_load = at-found.before.before.before.before.before.before.before.before.before in
-    let at-start = at_load.before.before.before.before.before in
-    check-found-none at-start.requires (found at-found) c.enum_told.given.1
+    let at-found = c.before in
+    check-found-none c.requires (found at-found) c.in-NoPeak.is
 
-returns-2 : tie.Need-returns-2
+returns-2 : tie.Need-returns-in-Account
 returns-2 c =
-    let at-found = c.before.before in
-    let at_load = at-found.before.before.before.before.before.before.before.before.before in
-    let at-start = at_load.before.before.before.before.before in
-    check-found-yes at-start.requires (found at-found) c.enum-told2.given.1
+    let at-found = c.before in
+    check-found-yes c.requires (found at-found) c.in-Account.is
 
-returns-3 : tie.Need-returns-3
+returns-3 : tie.Need-returns-in-NoAccount
 returns-3 c =
-    let at-found = c.before.before in
-    let at_load = at-found.before.before.before.before.before.before.before.before.before in
-    let at-start = at_load.before.before.before.before.before in
-    check-found-no at-start.requires (found at-found) c.enum-told3.given.1
+    let at-found = c.before in
+    check-found-no c.requires (found at-found) c.in-NoAccount.is
 
-pub check-good-spec : {M : Type 1} → statement M
-check-good-spec =
+pub check_good_spec : {M : Type 1} → statement M
+check_good_spec =
     tie.close
     (tie.spec load-requires (λ c κs. search rules) (λ c κs. search rules) (λ c κs. search rules) judge-requires
     (λ c. search rules) (λ c. search rules) (λ c. search rules) (λ c. search rules) returns (λ c. search rules)

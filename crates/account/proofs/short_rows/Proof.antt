@@ -6,15 +6,15 @@ use borrow.Author.Tests.{lt-ltb, le-ltb}
 use Rattle.account.proofs.short_rows.Statement.{statement}
 use Rattle.account.proofs.short_rows.Tie as tie
 
-returns : tie.Need-returns
+returns : tie.Need-returns-then-path-cells
 returns c =
-    let a = c.before.args in
-    sym (ap (λ (b : Bool). b || ltb a.island a.cells) (lt-ltb a.path a.cells c.if1.true))
+    let a = c.args in
+    sym (ap (λ (b : Bool). b || ltb a.island a.cells) (lt-ltb a.path a.cells c.if-path-cells.true))
 
-returns-2 : tie.Need-returns-2
+returns-2 : tie.Need-returns
 returns-2 c =
-    let a = c.before.args in
-    sym (ap (λ (b : Bool). b || ltb a.island a.cells) (le-ltb a.path a.cells c.if1.false))
+    let a = c.args in
+    sym (ap (λ (b : Bool). b || ltb a.island a.cells) (le-ltb a.path a.cells c.if-path-cells.false))
 
-pub short-rows-spec : {M : Type 1} → statement M
-short-rows-spec = tie.close (tie.spec returns returns-2)
+pub short_rows_spec : {M : Type 1} → statement M
+short_rows_spec = tie.close (tie.spec returns returns-2)
