@@ -9,23 +9,21 @@ use Rattle.survey.proofs.ListCalls.{list-refused}
 use Rattle.list.proofs.flat.Statement.{statement}
 use Rattle.list.proofs.flat.Tie as tie
 
-flat-good-requires : tie.Need-flat-good-requires
+flat-good-requires : tie.Need-flat_good-requires
 flat-good-requires c κs =
-    let at-check = c.before.before.before in
-    let a = at-check.before.before.args in
+    let a = c.args in
     grid-good a.rows (length a.heights.now) (length a.work.now)
-    (sym at-check.check.ensures ∙ c.before.enum_told.given.1)
+    (sym c.check-checked.ensures ∙ c.in-Good.is)
 
-returns : tie.Need-returns
+returns : tie.Need-returns-in-Bad
 returns c =
-    let at-check = c.before.before.before in
-    let a = at-check.before.before.args in
+    let a = c.args in
     list-refused (grid_tests a.rows (length a.heights.now) (length a.work.now)) (plane_of a.rows)
     a.threshold a.room a.heights.now
-    (sym at-check.check.ensures ∙ c.before.checked.given.1) refl
+    (sym c.check-checked.ensures ∙ c.in-Bad.is) refl
 
-pub flat-spec : {M : Type 1} → statement M
-flat-spec =
+pub flat_spec : {M : Type 1} → statement M
+flat_spec =
     tie.close
     (tie.spec (λ c κs. search rules) (λ c. search rules) (λ c. search rules) flat-good-requires returns
     (λ c. search rules) (λ c. search rules))

@@ -17,61 +17,60 @@ use Rattle.sound.proofs.has_fit_keys.Tie as tie
 
 -- ---- what is known of the record where its fields have been read
 
-abbrev start : tie.After-has-key → tie.Start
+abbrev start : tie.After-has_key → tie.Start
 start c = c.before.before.before.before.before.before
 
-abbrev key_fits : (c : tie.After-has-key) → SFits w32 (start c).args.p.key
+abbrev key_fits : (c : tie.After-has_key) → SFits w32 (start c).args.p.key
 key_fits c =
-    let told = c.before.before.before.before.before in
-    record { sfits = told.struct_told.given.1.1.0.1 }
+    record { sfits = c.struct_told-1.given.1.1.0.1 }
 
-abbrev height-fits : (c : tie.After-has-key) → SFits w32 (start c).args.p.height
-height-fits c = record { sfits = c.before.before.before.struct-told2.given.1.0.1 }
+abbrev height-fits : (c : tie.After-has_key) → SFits w32 (start c).args.p.height
+height-fits c = record { sfits = c.struct_told-2-1.given.1.0.1 }
 
-key-is : (c : tie.After-has-key) → c.before.before.before.before.level.result ≡ level_of (start c).args.p.key
+key-is : (c : tie.After-has_key) → c.level-key.result ≡ level_of (start c).args.p.key
 key-is c =
-    c.before.before.before.before.level.ensures ∙ ap level_of (to_z-of_z w32 (start c).args.p.key (key_fits c))
+    c.level-key.ensures ∙ ap level_of (to_z-of_z w32 (start c).args.p.key (key_fits c))
 
-level-is : (c : tie.After-has-key) → c.before.before.level2.result ≡ level_of (start c).args.p.height
-level-is c = c.before.before.level2.ensures ∙ ap level_of (to_z-of_z w32 (start c).args.p.height (height-fits c))
+level-is : (c : tie.After-has_key) → c.level-level.result ≡ level_of (start c).args.p.height
+level-is c = c.level-level.ensures ∙ ap level_of (to_z-of_z w32 (start c).args.p.height (height-fits c))
 
-given : (c : tie.Else1) → is_mark (start c.before).args.p.key ≡ false
-given c = not-true _ (sym c.before.has_key_lem.ensures ∙ not-false _ c.if1.false)
+given : (c : tie.Else-not-has_key) → is_mark (start c.before).args.p.key ≡ false
+given c = not-true _ (sym c.before.has_key_lem.ensures ∙ c.if-not-has_key.false)
 
 -- ---- the answers
 
-returns : tie.Need-returns
+returns : tie.Need-returns-then-not-has_key
 returns c hs len there =
     keyless-decides (key_fits c.before)
-    (not-false _ (sym c.before.has_key_lem.ensures ∙ not-true _ c.if1.true))
+    (not-false _ (sym c.before.has_key_lem.ensures ∙ c.if-not-has_key.true))
 
-returns-2 : tie.Need-returns-2
+returns-2 : tie.Need-returns-then-missing
 returns-2 c hs len there =
-    keyed-refuted (key_fits c.before.before) (given c.before) (λ k. k.pass (eqb-true _ _ c.if2.true))
+    keyed-refuted (key_fits c.before.before) (given c.before) (λ k. k.pass (eqb-true _ _ c.if-missing.true))
 
-returns-3 : tie.Need-returns-3
+returns-3 : tie.Need-returns-then-level-key
 returns-3 c hs len there =
     let at = c.before.before.before in
     keyed-refuted (key_fits at) (given c.before.before)
     (λ k. omega (arith, (level-lt-iff (key_fits at) (height-fits at)).0 k.below, key-is at, level-is at))
 
-returns-4 : tie.Need-returns-4
+returns-4 : tie.Need-returns-then-cells-index
 returns-4 c hs len there =
     let at = c.before.before.before.before.before in
     keyed-refuted (key_fits at) (given c.before.before.before.before) (λ k. omega (arith, k.exists))
 
-returns-5 : tie.Need-returns-5
+returns-5 : tie.Need-returns
 returns-5 c hs len there =
     let at = c.before.before.before.before.before.before in
     let s = start at in
     let key = key-is at in
     let level = level-is at in
-    rw (c.level3.ensures ∙ ap level_of (to_z-of_z w32 s.args.there s.fits.there), key)
+    rw (c.level.ensures ∙ ap level_of (to_z-of_z w32 s.args.there s.fits.there), key)
     (keyed-decides (key_fits at) (given c.before.before.before.before.before) (height-fits at) s.fits.there
-    there (eqb-false _ _ c.before.before.before.before.if2.false) (omega arith) (omega arith))
+    there (eqb-false _ _ c.if-missing.false) (omega arith) (omega arith))
 
-pub has-fit-keys-spec : {M : Type 1} → statement M
-has-fit-keys-spec =
+pub has_fit_keys_spec : {M : Type 1} → statement M
+has_fit_keys_spec =
     tie.close
     (tie.spec (λ c κs. search rules) (λ c κs. search rules) (λ c κs. search rules) returns returns-2 returns-3
     (λ c κs. search rules) returns-4 (λ c κs. search rules) returns-5)

@@ -10,16 +10,15 @@ use Rattle.sound.proofs.Cells.{at-any}
 use Rattle.sound.proofs.height_at.Statement.{statement}
 use Rattle.sound.proofs.height_at.Tie as tie
 
-returns : tie.Need-returns
+returns : tie.Need-returns-then-cell-heights
 returns c =
-    let start = c.before.before in
-    let cell = start.args.cell in
-    let hs = start.args.heights.now in
-    to_z-of_z w32 (get_or hs cell (pos 0)) (record { sfits = c.result.given })
-    ∙ at-any hs cell (pos 0) BLANK c.before.if1.true
+    let cell = c.args.cell in
+    let hs = c.args.heights.now in
+    to_z-of_z w32 (get_or hs cell (pos 0)) (record { sfits = c.result-1.given })
+    ∙ at-any hs cell (pos 0) BLANK c.if-cell-heights.true
 
-returns-2 : tie.Need-returns-2
-returns-2 c = sym (get_or-eq_default c.before.args.heights.now BLANK c.if1.false)
+returns-2 : tie.Need-returns
+returns-2 c = sym (get_or-eq_default c.args.heights.now BLANK c.if-cell-heights.false)
 
-pub height-at-spec : {M : Type 1} → statement M
-height-at-spec = tie.close (tie.spec (λ c. search rules) (λ c. search rules) returns returns-2)
+pub height_at_spec : {M : Type 1} → statement M
+height_at_spec = tie.close (tie.spec (λ c. search rules) (λ c. search rules) returns returns-2)

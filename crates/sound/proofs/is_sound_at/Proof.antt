@@ -8,16 +8,15 @@ use Rattle.sound.proofs.is_sound_at.Tie as tie
 
 returns : tie.Need-returns
 returns c =
-    let c4 = c.before.before.before.before in
-    let hs = c4.before.args.heights.now in
-    let here = c.before.before.before.height-at in
-    let there = c.before.height-at2 in
-    c.is-sound.ensures hs refl
-    (fetched hs (record { sfits = here.type-inv }) here.ensures c4.index.ensures)
-    (fetched hs (record { sfits = there.type-inv }) there.ensures c.before.before.index2.ensures)
+    let hs = c.args.heights.now in
+    let here = c.height_at-here in
+    let there = c.height_at-there in
+    c.is_sound.ensures hs refl
+    (fetched hs (record { sfits = here.type_inv }) here.ensures c.index.ensures)
+    (fetched hs (record { sfits = there.type_inv }) there.ensures c.index-2.ensures)
 
-pub is-sound-at-spec : {M : Type 1} → statement M
-is-sound-at-spec =
+pub is_sound_at_spec : {M : Type 1} → statement M
+is_sound_at_spec =
     tie.close
     (tie.spec (λ c κs. search rules) (λ c κs. search rules) (λ c κs. search rules) (λ c κs. search rules)
     (λ c κs. search rules) returns)

@@ -5,25 +5,25 @@ use borrow.Author.Rules.{rules}
 use Rattle.sound.proofs.scan.Statement.{statement}
 use Rattle.sound.proofs.scan.Tie as tie
 
-returns-2 : tie.Need-returns-2
+returns-2 : tie.Need-returns-then-is_sound_at
 returns-2 c =
-    let sound = c.before.before.is-sound-at.ensures.holds c.before.if2.true in
+    let sound = c.is_sound_at.ensures.holds c.if-is_sound_at.true in
     record {
       stopped = λ h. absurd (omega arith);
-      sound = λ h s. (c.next-cell.ensures.0, omega arith);
+      sound = λ h s. (c.next_cell.ensures.0, omega arith);
       unsound = λ h n. absurd (n sound);
     }
 
-returns-3 : tie.Need-returns-3
+returns-3 : tie.Need-returns
 returns-3 c =
-    let unsound = c.before.is-sound-at.ensures.fails c.if2.false in
+    let unsound = c.is_sound_at.ensures.fails c.if-is_sound_at.false in
     record {
       stopped = λ h. absurd (omega arith);
       sound = λ h s. absurd (unsound s);
       unsound = λ h n. refl;
     }
 
-pub scan-spec : {M : Type 1} → statement M
-scan-spec =
+pub scan_spec : {M : Type 1} → statement M
+scan_spec =
     tie.close
     (tie.spec (λ c. search rules) (λ c κs. search rules) (λ c κs. search rules) returns-2 (λ c. search rules) returns-3)
