@@ -35,18 +35,18 @@ level-is : (c : tie.After-has_key) → c.level-level.result ≡ level_of (start 
 level-is c = c.level-level.ensures ∙ ap level_of (to_z-of_z w32 (start c).args.p.height (height-fits c))
 
 given : (c : tie.Else-not-has_key) → is_mark (start c.before).args.p.key ≡ false
-given c = not-true _ (sym c.before.has_key_lem.ensures ∙ c.if-not-has_key.false)
+given c = not-true _ (sym c.has_key.ensures ∙ c.if-not-has_key.false)
 
 -- ---- the answers
 
 returns : tie.Need-returns-then-not-has_key
 returns c hs len there =
     keyless-decides (key_fits c.before)
-    (not-false _ (sym c.before.has_key_lem.ensures ∙ c.if-not-has_key.true))
+    (not-false _ (sym c.has_key.ensures ∙ c.if-not-has_key.true))
 
 returns-2 : tie.Need-returns-then-missing
 returns-2 c hs len there =
-    keyed-refuted (key_fits c.before.before) (given c.before) (λ k. k.pass (eqb-true _ _ c.if-missing.true))
+    keyed-refuted (key_fits c.before.before) (given c.before) (λ k. k.pass c.if-missing.true)
 
 returns-3 : tie.Need-returns-then-level-key
 returns-3 c hs len there =
@@ -65,9 +65,9 @@ returns-5 c hs len there =
     let s = start at in
     let key = key-is at in
     let level = level-is at in
-    rw (c.level.ensures ∙ ap level_of (to_z-of_z w32 s.args.there s.fits.there), key)
-    (keyed-decides (key_fits at) (given c.before.before.before.before.before) (height-fits at) s.fits.there
-    there (eqb-false _ _ c.if-missing.false) (omega arith) (omega arith))
+    rw (c.level.ensures ∙ ap level_of (to_z-of_z w32 s.args.there s.ranges.there), key)
+    (keyed-decides (key_fits at) (given c.before.before.before.before.before) (height-fits at) s.ranges.there
+    there c.if-missing.false (omega arith) (omega arith))
 
 pub has_fit_keys_spec : {M : Type 1} → statement M
 has_fit_keys_spec =

@@ -25,12 +25,12 @@ level-is c = c.level-level.ensures ∙ ap level_of (to_z-of_z w32 (start c).args
 here-is : (c : tie.After-level) → c.level.result ≡ level_of (start c.before.before.before).args.here
 here-is c =
     let s = start c.before.before.before in
-    c.level.ensures ∙ ap level_of (to_z-of_z w32 s.args.here s.fits.here)
+    c.level.ensures ∙ ap level_of (to_z-of_z w32 s.args.here s.ranges.here)
 
 blank-is : (c : tie.After-is_blank) → c.is_blank.result ≡ is_mark (start c.before).args.here
 blank-is c =
     let s = start c.before in
-    c.is_blank.ensures ∙ ap is_mark (to_z-of_z w32 s.args.here s.fits.here)
+    c.is_blank.ensures ∙ ap is_mark (to_z-of_z w32 s.args.here s.ranges.here)
 
 returns : tie.Need-returns-then-cells-cell
 returns c hs len here there = refuted (λ s. omega (arith, s.exists))
@@ -41,7 +41,7 @@ returns-2 c hs len here there = refuted (λ s. omega (arith, s.later))
 returns-3 : tie.Need-returns-then-is_blank
 returns-3 c hs len here there =
     let at = start c.before.before in
-    refuted (λ s. s.height (sym s.holds ∙ here ∙ (mark-decides at.fits.here).holds
+    refuted (λ s. s.height (sym s.holds ∙ here ∙ (mark-decides at.ranges.here).holds
     (sym (blank-is c.before) ∙ c.if-is_blank.true)))
 
 returns-4 : tie.Need-returns-then-level
@@ -53,10 +53,10 @@ returns-5 : tie.Need-returns
 returns-5 c hs len here there =
     let at = c.before.before.before.before.before in
     let s = start at in
-    sound-decides (height-fits at) s.fits.here here (omega arith) (omega arith)
+    sound-decides (height-fits at) s.ranges.here here (omega arith) (omega arith)
     (sym (blank-is c.before.before.before.before) ∙ c.if-is_blank.false)
     (sym (here-is c.before.before) ∙ c.if-level.false ∙ level-is at)
-    (c.has_fit_keys.ensures hs len (there ∙ sym (to_z-of_z w32 s.args.there s.fits.there)))
+    (c.has_fit_keys.ensures hs len (there ∙ sym (to_z-of_z w32 s.args.there s.ranges.there)))
 
 pub is_sound_spec : {M : Type 1} → statement M
 is_sound_spec =
