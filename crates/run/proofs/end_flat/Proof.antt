@@ -8,22 +8,20 @@ use Rattle.run.proofs.Columns.{end_refused}
 use Rattle.run.proofs.end_flat.Statement.{statement}
 use Rattle.run.proofs.end_flat.Tie as tie
 
-end-good-requires : tie.Need-end-good-requires
+end-good-requires : tie.Need-end_good-requires
 end-good-requires c κs =
-    let at-check = c.before.before.before in
-    let a = at-check.before.before.args in
+    let a = c.args in
     end-passed a.run (length a.grid.now) (length a.work.now)
-    (sym at-check.check-end.ensures ∙ c.before.enum_told.given.1)
+    (sym c.check_end-checked.ensures ∙ c.in-Good.is)
 
-returns : tie.Need-returns
+returns : tie.Need-returns-in-Bad
 returns c =
-    let at-check = c.before.before.before in
-    let a = at-check.before.before.args in
+    let a = c.args in
     end_refused a.run [] a.grid.now a.room a.work.now
-    (sym at-check.check-end.ensures ∙ c.before.checked.given.1) refl
+    (sym c.check_end-checked.ensures ∙ c.in-Bad.is) refl
 
-pub end-flat-spec : {M : Type 1} → statement M
-end-flat-spec =
+pub end_flat_spec : {M : Type 1} → statement M
+end_flat_spec =
     tie.close
     (tie.spec (λ c κs. search rules) (λ c. search rules) (λ c. search rules) end-good-requires returns
     (λ c. search rules) (λ c. search rules))

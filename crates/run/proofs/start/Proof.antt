@@ -31,16 +31,15 @@ module _ (rows T : ℕ) {b : Bool} (e : b ≡ bad_rows rows) where
   unfolding told
   begun f g = ap (λ (r : Run). started_told (started.Begun r)) g ∙ decided f
 
-returns : tie.Need-returns
+returns : tie.Need-returns-then-bad_rows
 returns c =
-    let a = c.before.before.args in
-    refused a.rows a.threshold c.before.bad-rows.ensures c.if1.true
+    let a = c.args in
+    refused a.rows a.threshold c.bad_rows.ensures c.if-bad_rows.true
 
-returns-2 : tie.Need-returns-2
+returns-2 : tie.Need-returns
 returns-2 c =
-    let at_rows = c.before.before in
-    let a = at_rows.before.args in
-    begun a.rows a.threshold at_rows.bad-rows.ensures c.before.if1.false c.growing.ensures
+    let a = c.args in
+    begun a.rows a.threshold c.bad_rows.ensures c.if-bad_rows.false c.growing.ensures
 
 pub start_spec : {M : Type 1} → statement M
 start_spec = tie.close (tie.spec (λ c κs. search rules) returns (λ c κs. search rules) returns-2)

@@ -9,33 +9,32 @@ use Rattle.layout.proofs.HandedBytes.{handed-puttable, handed-laid}
 use Rattle.layout.proofs.handed.hand_out.Statement.{statement}
 use Rattle.layout.proofs.handed.hand_out.Tie as tie
 
-lay-records-requires : tie.Need-lay-records-requires
+lay-records-requires : tie.Need-lay_records-requires
 lay-records-requires c κs =
     let at_count = c.before in
-    let start = at_count.before.before.before.before in
-    let a = start.args in
-    rw (at_count.before.Cells-of.ensures, at_count.count_of.ensures)
-    (handed-puttable a.work.now a.cells a.table.now a.handed start.requires)
+    let a = c.args in
+    rw (c.cells_of-read.ensures, c.count_of-count.ensures)
+    (handed-puttable a.work.now a.cells a.table.now a.handed c.requires)
 
 returns : tie.Need-returns
 returns c =
     let at-lay = c.before.before.before in
     let at_count = at-lay.before.before in
-    let a = at_count.before.before.before.before.args in
-    let told = to_z-of_z w64 _ (record { sfits = c.handed-number.type-inv }) ∙ c.handed-number.ensures in
+    let a = c.args in
+    let told = to_z-of_z w64 _ (record { sfits = c.handed_number.type_inv }) ∙ c.handed_number.ensures in
     record {
       told = told;
       filled =
-          at-lay.lay-records.ensures
+          c.lay_records.ensures
           ∙ ap₂ (λ (n count : ℕ). bytes_of (all_fields_of (records_in a.work.now n count))
-          ++ drop (16 * count) a.table.now) at_count.before.Cells-of.ensures at_count.count_of.ensures
+          ++ drop (16 * count) a.table.now) c.cells_of-read.ensures c.count_of-count.ensures
           ∙ handed-laid a.work.now a.cells a.table.now a.handed
           ∙ ap (λ (z : ℤ). bytes_after z (records_in a.work.now a.cells (count_in a.handed)) a.table.now)
           (sym told);
     }
 
-pub hand-out-spec : {M : Type 1} → statement M
-hand-out-spec =
+pub hand_out_spec : {M : Type 1} → statement M
+hand_out_spec =
     tie.close
     (tie.spec (λ c κs. search rules) (λ c κs. search rules) lay-records-requires (λ c κs. search rules)
     (λ c. search rules) returns)

@@ -9,17 +9,17 @@ use Rattle.layout.proofs.HandedBytes.{count-read}
 use Rattle.layout.proofs.handed.handed_number.Statement.{statement}
 use Rattle.layout.proofs.handed.handed_number.Tie as tie
 
-returns : tie.Need-returns
+returns : tie.Need-returns-in-Count
 returns c =
-    count-read c.before.handed.given.0.0 (omega arith)
-    ∙ sym (ap (λ (a : Handed). signed_told (handed_told a)) c.before.handed.given.1)
+    count-read c.in-Count.n (omega arith)
+    ∙ sym (ap (λ (a : Handed). signed_told (handed_told a)) c.in-Count.is)
 
-returns-2 : tie.Need-returns-2
+returns-2 : tie.Need-returns-in-Refused
 returns-2 c =
-    to_z-of_z w64 _ (record { sfits = c.refused-number.type-inv }) ∙ c.refused-number.ensures
-    ∙ sym (ap (λ (a : Handed). signed_told (handed_told a)) c.before.before.handed2.given.1)
+    to_z-of_z w64 _ (record { sfits = c.refused_number.type_inv }) ∙ c.refused_number.ensures
+    ∙ sym (ap (λ (a : Handed). signed_told (handed_told a)) c.in-Refused.is)
 
-pub handed-number-spec : {M : Type 1} → statement M
-handed-number-spec =
+pub handed_number_spec : {M : Type 1} → statement M
+handed_number_spec =
     tie.close
     (tie.spec (λ c. search rules) (λ c. search rules) (λ c. search rules) (λ c κs. search rules) returns returns-2)

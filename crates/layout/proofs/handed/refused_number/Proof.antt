@@ -5,13 +5,13 @@ use Rattle.layout.proofs.HandedBytes.{minus-fits, minus-read, refused-signed}
 use Rattle.layout.proofs.handed.refused_number.Statement.{statement}
 use Rattle.layout.proofs.handed.refused_number.Tie as tie
 
-sub-result : tie.Need-overflow-sub-result
+sub-result : tie.Need-overflow_sub-result
 sub-result c = minus-fits c.number.result (omega arith)
 
 returns : tie.Need-returns
 returns c =
     minus-read c.number.result (omega arith) ∙ ap (λ (n : ℕ). pos 0 -ℤ pos n) c.number.ensures
-    ∙ refused-signed c.before.args.refusal
+    ∙ refused-signed c.args.refusal
 
-pub refused-number-spec : {M : Type 1} → statement M
-refused-number-spec = tie.close (tie.spec (λ c κs. search rules) (λ c. search rules) sub-result returns)
+pub refused_number_spec : {M : Type 1} → statement M
+refused_number_spec = tie.close (tie.spec (λ c κs. search rules) (λ c. search rules) sub-result returns)

@@ -8,8 +8,8 @@ use Rattle.layout.proofs.numbers.bits.Tie as tie
 
 returns : tie.Need-returns
 returns c =
-    let fits = c.before.before.ranges.height in
-    omega (arith, bits-level fits, ap level_of (to_z-of_z w32 c.before.before.args.height fits))
+    let fits = c.ranges.height in
+    omega (arith, bits-level fits, ap level_of (to_z-of_z w32 c.args.height fits))
 
-pub bits-spec : {M : Type 1} → statement M
-bits-spec = tie.close (tie.spec (λ c κs. search rules) (λ c κs. search rules) returns)
+pub bits_spec : {M : Type 1} → statement M
+bits_spec = tie.close (tie.spec (λ c κs. search rules) (λ c κs. search rules) returns)

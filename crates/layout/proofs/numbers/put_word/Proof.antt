@@ -6,12 +6,10 @@ use Rattle.layout.proofs.numbers.put_word.Tie as tie
 
 returns : tie.Need-returns
 returns c =
-    let c4 = c.before.before.before.before in
-    let start = c4.before in
-    over_word start.args.room.now c.before.before.put.new.0
-    (λ k. omega (arith, c4.slice-known.given k))
-    (λ k. omega (arith, c.slice-known2.given k))
-    start.args.i start.args.v (omega arith) c.before.before.put.ensures
+    over_word c.args.room.now c.put.new.s
+    (λ k. omega (arith, c.slice_known-1.given k))
+    (λ k. omega (arith, c.slice_known-2-1.given k))
+    c.args.i c.args.v (omega arith) c.put.ensures
 
-pub put-word-spec : {M : Type 1} → statement M
-put-word-spec = tie.close (tie.spec (λ c κs. search rules) (λ c. search rules) returns)
+pub put_word_spec : {M : Type 1} → statement M
+put_word_spec = tie.close (tie.spec (λ c κs. search rules) (λ c. search rules) returns)

@@ -8,8 +8,8 @@ use Rattle.layout.proofs.numbers.signed.Tie as tie
 
 returns : tie.Need-returns
 returns c =
-    let fits : SFits w32 c.height.result = record { sfits = c.height.type-inv } in
-    to_z-of_z w32 c.height.result fits ∙ signed-level c.before.before.args.bits fits (omega arith) (omega arith)
+    let fits : SFits w32 c.height.result = record { sfits = c.height.type_inv } in
+    to_z-of_z w32 c.height.result fits ∙ signed-level c.args.bits fits (omega arith) (omega arith)
 
-pub signed-spec : {M : Type 1} → statement M
-signed-spec = tie.close (tie.spec (λ c κs. search rules) (λ c κs. search rules) returns)
+pub signed_spec : {M : Type 1} → statement M
+signed_spec = tie.close (tie.spec (λ c κs. search rules) (λ c κs. search rules) returns)

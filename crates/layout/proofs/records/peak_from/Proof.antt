@@ -8,23 +8,22 @@ use Rattle.layout.proofs.records.peak_from.Tie as tie
 returns : tie.Need-returns
 unfolding peak_from
 returns c =
-    let c4 = c.before.before.before.before in
-    let height = c4.signed in
-    let key = c.before.before.signed2 in
-    c.with-key.ensures
+    let height = c.signed-height in
+    let key = c.signed-key in
+    c.with_key.ensures
     ∙ rw (
-      to_z-of_z w32 height.result (record { sfits = height.type-inv }),
-      to_z-of_z w32 key.result (record { sfits = key.type-inv }),
+      to_z-of_z w32 height.result (record { sfits = height.type_inv }),
+      to_z-of_z w32 key.result (record { sfits = key.type_inv }),
       height.ensures,
       key.ensures,
-      c4.before.before.get.ensures,
-      c4.before.get2.ensures,
-      c.before.before.before.get3.ensures,
-      c.before.get4.ensures,
+      c.get-cell.ensures,
+      c.get.ensures,
+      c.get-2.ensures,
+      c.get-pass.ensures,
     )
 
-pub peak-from-spec : {M : Type 1} → statement M
-peak-from-spec =
+pub peak_from_spec : {M : Type 1} → statement M
+peak_from_spec =
     tie.close
     (tie.spec (λ c κs. search rules) (λ c. search rules) (λ c κs. search rules) (λ c κs. search rules)
     (λ c. search rules) (λ c κs. search rules) (λ c κs. search rules) (λ c. search rules) (λ c κs. search rules)

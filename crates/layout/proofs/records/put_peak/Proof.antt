@@ -10,37 +10,32 @@ use Rattle.layout.proofs.records.put_peak.Tie as tie
 returns : tie.Need-returns
 unfolding fields_of
 returns c =
-    let c4 = c.before.before.before.before in
-    let c8 = c4.before.before.before.before in
-    let c12 = c8.before.before.before.before in
-    let c16 = c12.before.before.before.before in
-    let c20 = c16.before.before.before.before in
-    let args = c20.before.args in
+    let args = c.args in
     let s = args.s.now in
     let cell = args.p.cell in
     let height = bits_of args.p.height in
     let key = bits_of args.p.key in
     let at = 4 * args.at in
     let height-is =
-    c12.before.bits.ensures
-    ∙ ap bits_of (to_z-of_z w32 args.p.height (record { sfits = c12.before.before.struct_told.given.1.0.1 })) in
+    c.bits.ensures
+    ∙ ap bits_of (to_z-of_z w32 args.p.height (record { sfits = c.struct_told-1.given.1.0.1 })) in
     let key-is =
-    c4.before.before.before.bits2.ensures
-    ∙ ap bits_of (to_z-of_z w32 args.p.key (record { sfits = c12.before.before.struct_told.given.1.1.0.1 })) in
+    c.bits-2.ensures
+    ∙ ap bits_of (to_z-of_z w32 args.p.key (record { sfits = c.struct_told-1.given.1.1.0.1 })) in
     let e0 =
     over-next s [] cell at _ (omega arith) (over-nil s at) (omega arith) refl
-    c16.before.before.put_word.ensures in
+    c.put_word.ensures in
     let e1 =
     over-next s (cell ∷ []) height at _ (omega arith) e0 (omega arith) height-is
-    c12.put-word2.ensures in
+    c.put_word-2.ensures in
     let e2 =
     over-next s (cell ∷ height ∷ []) key at _ (omega arith) e1 (omega arith) key-is
-    c4.before.before.put-word3.ensures in
+    c.put_word-3.ensures in
     over-next s (cell ∷ height ∷ key ∷ []) args.p.pass at _ (omega arith) e2 (omega arith) refl
-    c.before.before.put-word4.ensures
+    c.put_word-4.ensures
 
-pub put-peak-spec : {M : Type 1} → statement M
-put-peak-spec =
+pub put_peak_spec : {M : Type 1} → statement M
+put_peak_spec =
     tie.close
     (tie.spec (λ c κs. search rules) (λ c. search rules) (λ c κs. search rules) (λ c κs. search rules)
     (λ c. search rules) (λ c κs. search rules) (λ c κs. search rules) (λ c. search rules) (λ c κs. search rules)

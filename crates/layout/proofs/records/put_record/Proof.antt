@@ -11,12 +11,12 @@ place cells i = omega arith
 
 returns : tie.Need-returns
 returns c =
-    let a = c.before.before.before.before.before.args in
-    c.before.before.put-peak.ensures
+    let a = c.args in
+    c.put_peak.ensures
     ∙ ap (λ (n : ℕ). over a.room.now n (bytes_of (fields_of a.p))) (place a.cells a.i)
 
-pub put-record-spec : {M : Type 1} → statement M
-put-record-spec =
+pub put_record_spec : {M : Type 1} → statement M
+put_record_spec =
     tie.close
     (tie.spec (λ c. search rules) (λ c. search rules) (λ c. search rules) (λ c κs. omega arith) (λ c. search rules)
     returns)

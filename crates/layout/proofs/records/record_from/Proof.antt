@@ -3,8 +3,8 @@ use Rattle.std.proofs.Common.{arith, rules}
 use Rattle.layout.proofs.records.record_from.Statement.{statement}
 use Rattle.layout.proofs.records.record_from.Tie as tie
 
-pub record-from-spec : {M : Type 1} → statement M
-record-from-spec =
+pub record_from_spec : {M : Type 1} → statement M
+record_from_spec =
     tie.close
     (tie.spec (λ c. search rules) (λ c. search rules) (λ c. search rules) (λ c κs. omega arith)
-    (λ c. c.peak-from.ensures))
+    (λ c. c.peak_from.ensures))
