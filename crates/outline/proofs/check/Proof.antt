@@ -6,16 +6,13 @@ use Rattle.outline.proofs.check.Tie as tie
 
 returns : tie.Need-returns
 returns c =
-    let at_held = c.before.before in
-    let at-levels = at_held.before.before in
-    let at_ended = at-levels.before in
-    let a = at_ended.before.before.args in
-    outline-tested a.run a.grid a.levels a.work at_ended.before.check-run.ensures
-    at_ended.then-test.ensures at-levels.bad-levels.ensures at_held.before.then-test2.ensures
-    at_held.held-cells.ensures c.before.short-work.ensures c.then-test3.ensures
+    let a = c.args in
+    outline-tested a.run a.grid a.levels a.work c.check_run-checked.ensures
+    c.then_test-checked.ensures c.bad_levels.ensures c.then_test-checked-2.ensures
+    c.held_cells.ensures c.short_work-short.ensures c.then_test.ensures
 
-pub check-spec : {M : Type 1} → statement M
-check-spec =
+pub check_spec : {M : Type 1} → statement M
+check_spec =
     tie.close
     (tie.spec (λ c κs. search rules) (λ c κs. search rules) (λ c κs. search rules) (λ c κs. search rules)
     (λ c κs. search rules) (λ c κs. search rules) (λ c κs. search rules) returns)

@@ -5,38 +5,31 @@ use Rattle.outline.proofs.Answers.{print-counting, print-few, print-writing, pri
 use Rattle.outline.proofs.print.Statement.{statement}
 use Rattle.outline.proofs.print.Tie as tie
 
-sub-left : tie.Need-overflow-sub-left
-sub-left c = c.before.before.requires.one
+sub-left : tie.Need-overflow_sub-left
+sub-left c = c.requires.one
 
-tops-requires : tie.Need-tops-requires
-tops-requires c κs = let s = c.before.before.before in print-counting s.requires s.args.text.now
+tops-requires : tie.Need-tops-needed-requires
+tops-requires c κs = print-counting c.requires c.args.text.now
 
-returns : tie.Need-returns
+returns : tie.Need-returns-then-text-needed
 returns c =
-    let at-tops = c.before.before.before in
-    printed-short at-tops.before.before.before.before.requires at-tops.tops.ensures c.if1.true
+    printed-short c.requires c.tops-needed.ensures c.if-text-needed.true
 
-tops-requires-2 : tie.Need-tops-requires-2
+tops-requires-2 : tie.Need-tops-requires
 tops-requires-2 c κs =
-    let at-if1 = c.before in
-    let at-tops = at-if1.before.before.before in
-    print-writing at-tops.before.before.before.before.requires at-tops.tops.ensures at-if1.if1.false
+    print-writing c.requires c.tops-needed.ensures c.if-text-needed.false
 
 narrow-requires : tie.Need-narrow-requires
 narrow-requires c κs =
-    let at-tops = c.before.before.before.before.before.before.before in
-    print-few at-tops.before.before.before.before.requires at-tops.tops.ensures
+    print-few c.requires c.tops-needed.ensures
 
-returns-2 : tie.Need-returns-2
+returns-2 : tie.Need-returns
 returns-2 c =
-    let at-tops2 = c.before.before.before in
-    let at-if1 = at-tops2.before.before in
-    let at-tops = at-if1.before.before.before in
-    printed-whole at-tops.before.before.before.before.requires at-tops.tops.ensures at-if1.if1.false
-    at-tops2.tops2.ensures c.narrow.ensures
+    printed-whole c.requires c.tops-needed.ensures c.if-text-needed.false
+    c.tops.ensures c.narrow.ensures
 
-pub print-spec : {M : Type 1} → statement M
-print-spec =
+pub print_spec : {M : Type 1} → statement M
+print_spec =
     tie.close
     (tie.spec sub-left tops-requires (λ c. search rules) returns tops-requires-2 narrow-requires (λ c. search rules)
     returns-2)

@@ -5,10 +5,10 @@ use Rattle.reader.specs.Inner.{cells_to_take}
 use Rattle.reader.proofs.cells_to_take.Statement.{statement}
 use Rattle.reader.proofs.cells_to_take.Tie as tie
 
-returns : tie.Need-returns
-returns c = c.times.ensures.0 ∙ ap cells_to_take (sym c.before.before.answer.given.1)
+returns : tie.Need-returns-in-Run
+returns c = c.times.ensures.0 ∙ ap cells_to_take (sym c.in-Run.is)
 
-pub cells-to-take-spec : {M : Type 1} → statement M
-cells-to-take-spec =
+pub cells_to_take_spec : {M : Type 1} → statement M
+cells_to_take_spec =
     tie.close
     (tie.spec (λ c. search rules) (λ c κs. search rules) (λ c. search rules) returns (λ c. search rules))

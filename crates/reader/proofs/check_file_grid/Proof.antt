@@ -10,23 +10,21 @@ use Rattle.reader.proofs.ReadAnswer.{grid-short, grid-made}
 use Rattle.reader.proofs.check_file_grid.Statement.{statement}
 use Rattle.reader.proofs.check_file_grid.Tie as tie
 
-returns : tie.Need-returns
+returns : tie.Need-returns-then-file-lt24
 returns c =
-    let f = c.before.before.args.file.now in
-    grid-short f (lt-ltb (length f) 24 c.if1.true)
+    let f = c.args.file.now in
+    grid-short f (lt-ltb (length f) 24 c.if-file-lt24.true)
 
-returns-2 : tie.Need-returns-2
+returns-2 : tie.Need-returns
 returns-2 c =
-    let at_cells = c.before.before.before in
-    let at_rows = at_cells.before.before in
-    let f = at_rows.before.before.before.args.file.now in
-    grid-made f (le-ltb (length f) 24 at_rows.before.if1.false)
-    (c.before.before.bad-rows.ensures ∙ ap bad_rows at_rows.get.ensures)
-    (at_cells.times.ensures.0 ∙ ap₂ ◌*◌ at_rows.get.ensures at_cells.before.get2.ensures)
-    c.before.then-test.ensures c.then-test2.ensures
+    let f = c.args.file.now in
+    grid-made f (le-ltb (length f) 24 c.if-file-lt24.false)
+    (c.bad_rows.ensures ∙ ap bad_rows c.get-rows.ensures)
+    (c.times-cells.ensures.0 ∙ ap₂ ◌*◌ c.get-rows.ensures c.get.ensures)
+    c.then_test-checked.ensures c.then_test.ensures
 
-pub check-file-grid-spec : {M : Type 1} → statement M
-check-file-grid-spec =
+pub check_file_grid_spec : {M : Type 1} → statement M
+check_file_grid_spec =
     tie.close
     (tie.spec returns (λ c κs. search rules) (λ c κs. search rules) (λ c κs. search rules) (λ c κs. search rules)
     (λ c κs. search rules) (λ c κs. search rules) returns-2)

@@ -12,41 +12,38 @@ use Rattle.reader.proofs.ReadAnswer.{grid-known, header-early, header_made}
 use Rattle.reader.proofs.check_header.Statement.{statement}
 use Rattle.reader.proofs.check_header.Tie as tie
 
-abbrev file : tie.After-enum-told2 → List ℕ
-file c = c.before.before.before.before.args.file.now
+abbrev file : tie.In_default → List ℕ
+file c = c.args.file.now
 
-known : (c : tie.After-enum-told2) → (24 ≤ length (file c)) × (cells_in (file c) ≤ 1048576)
-known c = grid-known (file c) (sym c.before.before.check-file-grid.ensures ∙ c.enum-told2.given.1)
+known : (c : tie.In_default) → (24 ≤ length (file c)) × (cells_in (file c) ≤ 1048576)
+known c = grid-known (file c) (sym c.check_file_grid-checked.ensures ∙ c.in_default.is)
 
-cells_is : (c : tie.After-times) → c.times.result ≡ cells_in (file c.before.before.before)
-cells_is c = c.times.ensures.0 ∙ ap₂ ◌*◌ c.before.before.get.ensures c.before.get2.ensures
+cells_is : (c : tie.After-times-cells) → c.times-cells.result ≡ cells_in (file c.before.before.before)
+cells_is c = c.times-cells.ensures.0 ∙ ap₂ ◌*◌ c.get.ensures c.get-2.ensures
 
-returns : tie.Need-returns
+returns : tie.Need-returns-in-Bad
 returns c =
-    let at-grid = c.before.before in
-    let f = at-grid.before.before.args.file.now in
-    c.enum_told.given.1 ∙ sym (header-early f (sym at-grid.check-file-grid.ensures ∙ c.enum_told.given.1))
+    let f = c.args.file.now in
+    c.in-Bad.is ∙ sym (header-early f (sym c.check_file_grid-checked.ensures ∙ c.in-Bad.is))
 
-is-miscounted-requires : tie.Need-is-miscounted-requires
+is-miscounted-requires : tie.Need-is_miscounted-wrong-requires
 is-miscounted-requires c κs =
     let at_cells = c.before.before in
-    let at-good = at_cells.before.before.before in
+    let at-good = c.before.before.before.before.before in
     ((known at-good).0, (omega (arith, (known at-good).1, cells_is at_cells), omega arith))
 
-returns-2 : tie.Need-returns-2
+returns-2 : tie.Need-returns
 returns-2 c =
-    let at-wrong = c.before.before.before.before in
-    let at-peaks = at-wrong.before.before in
-    let at_cells = at-peaks.before in
-    let at-good = at_cells.before.before.before in
-    header_made (file at-good) at-good.before.before.check-file-grid.ensures
-    (at-wrong.is-miscounted.ensures
-    ∙ ap₂ (miscounted (file at-good)) (cells_is at_cells) (at-wrong.before.index.ensures ∙ at-peaks.get3.ensures))
-    (c.before.before.index2.ensures ∙ c.before.before.before.get4.ensures)
-    c.before.then-test.ensures c.then-test2.ensures
+    let at_cells = c.before.before.before.before.before.before.before in
+    let at-good = c.before.before.before.before.before.before.before.before.before.before in
+    header_made (file at-good) c.check_file_grid-checked.ensures
+    (c.is_miscounted-wrong.ensures
+    ∙ ap₂ (miscounted (file at-good)) (cells_is at_cells) (c.index.ensures ∙ c.get-3.ensures))
+    (c.index-total.ensures ∙ c.get-4.ensures)
+    c.then_test-checked.ensures c.then_test.ensures
 
-pub check-header-spec : {M : Type 1} → statement M
-check-header-spec =
+pub check_header_spec : {M : Type 1} → statement M
+check_header_spec =
     tie.close
     (tie.spec (λ c κs. search rules) (λ c. search rules) returns (λ c. search rules) (λ c κs. omega (arith, (known c).0))
     (λ c κs. omega (arith, (known c.before).0)) (λ c κs. search rules)

@@ -11,50 +11,46 @@ use Rattle.layout.specs.Promises.{miscounted}
 use Rattle.reader.proofs.is_miscounted.Statement.{statement}
 use Rattle.reader.proofs.is_miscounted.Tie as tie
 
-returns : tie.Need-returns
+returns : tie.Need-returns-then-cells-n
 unfolding miscounted
 returns c =
-    let args = c.before.before.args in
-    rw (lt-ltb args.cells args.n c.if1.true)
+    let args = c.args in
+    rw (lt-ltb args.cells args.n c.if-cells-n.true)
 
-returns-2 : tie.Need-returns-2
+returns-2 : tie.Need-returns-then-get-ne24
 unfolding miscounted
 returns-2 c =
-    let c4 = c.before.before.before.before in
-    let args = c4.args in
+    let args = c.args in
     rw (
-      le-ltb args.cells args.n c.before.before.if1.false,
-      ne_eqb (word_at args.file.now 3) 24 (λ e. c.if2.true (c.before.get.ensures ∙ e)),
+      le-ltb args.cells args.n c.if-cells-n.false,
+      ne_eqb (word_at args.file.now 3) 24 (λ e. c.if-get-ne24.true (c.get.ensures ∙ e)),
     )
 
-returns-3 : tie.Need-returns-3
+returns-3 : tie.Need-returns-then-index-offset
 unfolding miscounted
 returns-3 c =
-    let c4 = c.before.before.before.before in
-    let args = c4.before.before.before.args in
+    let args = c.args in
     rw (
-      le-ltb args.cells args.n c4.before.if1.false,
-      eq-eqb (word_at args.file.now 3) 24 (sym c4.get.ensures ∙ c.before.before.before.if2.false),
+      le-ltb args.cells args.n c.if-cells-n.false,
+      eq-eqb (word_at args.file.now 3) 24 (sym c.get.ensures ∙ c.if-get-ne24.false),
       ne_eqb (word_at args.file.now 4) (24 + 4 * args.cells)
-          (λ e. c.if3.true (c.before.index.ensures ∙ c.before.before.get2.ensures ∙ e)),
+          (λ e. c.if-index-offset.true (c.index.ensures ∙ c.get-2.ensures ∙ e)),
     )
 
-returns-4 : tie.Need-returns-4
+returns-4 : tie.Need-returns
 unfolding miscounted
 returns-4 c =
-    let c4 = c.before.before.before.before in
-    let c8 = c4.before.before.before.before in
-    let args = c8.before.args in
+    let args = c.args in
     rw (
-      le-ltb args.cells args.n c4.before.before.before.if1.false,
-      eq-eqb (word_at args.file.now 3) 24 (sym c4.before.before.get.ensures ∙ c4.before.if2.false),
+      le-ltb args.cells args.n c.if-cells-n.false,
+      eq-eqb (word_at args.file.now 3) 24 (sym c.get.ensures ∙ c.if-get-ne24.false),
       eq-eqb (word_at args.file.now 4) (24 + 4 * args.cells)
-          (sym (c.before.before.before.index.ensures ∙ c4.get2.ensures) ∙ c.before.before.if3.false),
+          (sym (c.index.ensures ∙ c.get-2.ensures) ∙ c.if-index-offset.false),
     )
-    (ap (λ (w : ℕ). not (eqb w (total_of args.cells args.n))) (c.index2.ensures ∙ c.before.get3.ensures))
+    (ap (λ (w : ℕ). not (eqb w (total_of args.cells args.n))) (c.index-2.ensures ∙ c.get-3.ensures))
 
-pub is-miscounted-spec : {M : Type 1} → statement M
-is-miscounted-spec =
+pub is_miscounted_spec : {M : Type 1} → statement M
+is_miscounted_spec =
     tie.close
     (tie.spec returns (λ c κs. search rules) returns-2 (λ c. search rules) (λ c. search rules) (λ c κs. search rules)
     (λ c κs. search rules) returns-3 (λ c κs. search rules) (λ c κs. search rules) (λ c. search rules)

@@ -36,30 +36,28 @@ module _ (f : List ℕ) (heights table : ℕ) where
       (ap cells_to_take (read_same f heights table j.unsound j.answered))
   taken hs (Refused r) j = refl
 
-take-heights-requires : tie.Need-take-heights-requires
+take-heights-requires : tie.Need-take_heights-requires
 take-heights-requires c κs =
-    let judge = c.before.before.judge in
-    let c4 = c.before.before.before.before in
-    let args = c4.args in
-    rw c.cells-to-take.ensures
+    let judge = c.judge-answer in
+    let args = c.args in
+    rw c.cells_to_take.ensures
     (enough args.file.now (length args.heights.now) args.table judge.result judge.ensures)
 
 returns : tie.Need-returns
 returns c =
-    let c4 = c.before.before.before.before in
-    let args = c4.before.before.args in
-    let judge = c4.judge in
+    let args = c.args in
+    let judge = c.judge-answer in
     record {
       answer = judge.ensures;
       heights =
-          c.before.take-heights.ensures
+          c.take_heights.ensures
           ∙ ap (λ (n : ℕ). heights_in args.file.now n ++ drop n args.heights.now)
-          c.before.before.cells-to-take.ensures
+          c.cells_to_take.ensures
           ∙ taken args.file.now (length args.heights.now) args.table args.heights.now judge.result
           judge.ensures;
     }
 
-pub take-grid-spec : {M : Type 1} → statement M
-take-grid-spec =
+pub take_grid_spec : {M : Type 1} → statement M
+take_grid_spec =
     tie.close
     (tie.spec (λ c κs. search rules) (λ c κs. search rules) take-heights-requires (λ c. search rules) returns)

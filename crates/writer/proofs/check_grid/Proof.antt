@@ -7,15 +7,13 @@ use Rattle.writer.proofs.check_grid.Tie as tie
 
 returns : tie.Need-returns
 returns c =
-    let at_rows = c.before.before.before in
-    let at-index = at_rows.before.before in
-    let a = at-index.before.args in
-    grid-made a.rows a.cells at-index.index.ensures at_rows.bad-rows.ensures
-    at_rows.before.uneven.ensures c.before.before.then-test.ensures c.before.then-test2.ensures
-    c.then-test3.ensures
+    let a = c.args in
+    grid-made a.rows a.cells c.index.ensures c.bad_rows.ensures
+    c.uneven-uneven.ensures c.then_test-checked.ensures c.then_test-checked-2.ensures
+    c.then_test.ensures
 
-pub check-grid-spec : {M : Type 1} → statement M
-check-grid-spec =
+pub check_grid_spec : {M : Type 1} → statement M
+check_grid_spec =
     tie.close
     (tie.spec (λ c κs. search rules) (λ c κs. search rules) (λ c κs. search rules) (λ c κs. search rules)
     (λ c κs. search rules) (λ c κs. search rules) returns)

@@ -16,19 +16,17 @@ use Rattle.writer.proofs.WriteAnswer.{Writable, written-writable}
 use Rattle.writer.proofs.put_grid.Statement.{statement}
 use Rattle.writer.proofs.put_grid.Tie as tie
 
-abbrev WritableAt : tie.After-enum-told2 → Type 0
+abbrev WritableAt : tie.In_default → Type 0
 WritableAt c =
-    let c4 = c.before.before.before.before in
-    let args = c4.args in
+    let args = c.args in
     Writable args.rows (length args.heights.now) args.n args.unsound (length args.room.now)
 
-writable : (c : tie.After-enum-told2) → WritableAt c
+writable : (c : tie.In_default) → WritableAt c
 writable c =
-    let c4 = c.before.before.before.before in
-    let args = c4.args in
+    let args = c.args in
     written-writable args.rows (length args.heights.now) args.n args.unsound (length args.room.now)
     _
-    (ap written_told (sym c.enum-told2.given.1) ∙ c.before.before.plan.ensures)
+    (ap written_told (sym c.in_default.is) ∙ c.plan-answer.ensures)
 
 laid_both :
     (s t u : List ℕ) (rows n : ℕ) (hs : List ℤ) → 24 ≤ length s →
@@ -42,38 +40,33 @@ laid_both s t u rows n hs h e e' =
     ∙ over-over s 0 (bytes_of header) (omega arith) 24 (bytes_of (map bits_of hs)) (omega arith)
     ∙ ap (over s 0) (sym (bytes-append header (map bits_of hs)))
 
-put-header-requires : tie.Need-put-header-requires
+put-header-requires : tie.Need-put_header-requires
 put-header-requires c κs =
-    let c4 = c.before.before.before.before in
     let w = writable c.before in
-    let start = c4.before in
-    (w.long, (omega (arith, w.sound, w.grid.fit, start.requires.few), omega (arith, w.grid.some)))
+    (w.long, (omega (arith, w.sound, w.grid.fit, c.requires.few), omega (arith, w.grid.some)))
 
-put-heights-requires : tie.Need-put-heights-requires
+put-heights-requires : tie.Need-put_heights-requires
 put-heights-requires c κs =
-    let c4 = c.before.before.before.before in
-    omega (arith, (writable c4.before).long, c.before.before.before.put-header.auto.0)
+    let c4 = c.before.before.before.before.before in
+    omega (arith, (writable c4).long, c.put_header.auto.0)
 
-returns-2 : tie.Need-returns-2
+returns-2 : tie.Need-returns
 returns-2 c =
-    let c4 = c.before.before.before.before in
-    let c8 = c4.before.before.before.before in
-    let c12 = c8.before.before.before.before in
-    let args = c12.args in
-    let told = c8 in
+    let args = c.args in
+    let told = c.before.before.before.before.before.before.before.before in
     let w = writable told in
-    let header = c4.before.before.put-header in
-    let heights = c.before.before.put-heights in
+    let header = c.put_header in
+    let heights = c.put_heights in
     record {
-      answered = c8.before.before.plan.ensures;
+      answered = c.plan-answer.ensures;
       room =
-          rw told.enum-told2.given.1
+          rw c.in_default.is
           (laid_both args.room.now header.new.0 heights.new.0 args.rows args.n
           args.heights.now (omega (arith, w.long)) header.ensures heights.ensures);
     }
 
-pub put-grid-spec : {M : Type 1} → statement M
-put-grid-spec =
+pub put_grid_spec : {M : Type 1} → statement M
+put_grid_spec =
     tie.close
     (tie.spec (λ c κs. search rules) (λ c. search rules) (λ c. search rules) (λ c. search rules) put-header-requires
     put-heights-requires (λ c. search rules) returns-2)

@@ -13,20 +13,12 @@ use Rattle.writer.proofs.put_header.Tie as tie
 
 narrow-requires : tie.Need-narrow-requires
 narrow-requires c κs =
-    let c4 = c.before.before.before.before in
-    omega (arith, div-le_self c4.before.before.before.args.cells c4.before.index.result)
+    omega (arith, div-le_self c.args.cells c.index.result)
 
 returns : tie.Need-returns
 unfolding header_of
 returns c =
-    let c4 = c.before.before.before.before in
-    let c8 = c4.before.before.before.before in
-    let c12 = c8.before.before.before.before in
-    let c16 = c12.before.before.before.before in
-    let c20 = c16.before.before.before.before in
-    let c24 = c20.before.before.before.before in
-    let c28 = c24.before.before.before.before in
-    let args = c28.before.before.args in
+    let args = c.args in
     let s = args.room.now in
     let rows = args.rows in
     let cells = args.cells in
@@ -34,23 +26,23 @@ returns c =
     let columns = cells / rows in
     let offset = 24 + 4 * cells in
     let total = total_of cells n in
-    let columns-is = c20.before.before.narrow.ensures ∙ ap (λ (d : ℕ). cells / d) c28.index.ensures in
-    let e0 = over-next s [] rows 0 0 (omega arith) (over-nil s 0) refl refl c24.before.before.put_word.ensures in
-    let e1 = over-next s (rows ∷ []) columns 0 4 (omega arith) e0 refl columns-is c20.before.put-word2.ensures in
+    let columns-is = c.narrow.ensures ∙ ap (λ (d : ℕ). cells / d) c.index.ensures in
+    let e0 = over-next s [] rows 0 0 (omega arith) (over-nil s 0) refl refl c.put_word.ensures in
+    let e1 = over-next s (rows ∷ []) columns 0 4 (omega arith) e0 refl columns-is c.put_word-2.ensures in
     let e2 =
-    over-next s (rows ∷ columns ∷ []) n 0 8 (omega arith) e1 refl c16.before.narrow2.ensures
-    c16.put-word3.ensures in
+    over-next s (rows ∷ columns ∷ []) n 0 8 (omega arith) e1 refl c.narrow-2.ensures
+    c.put_word-3.ensures in
     let e3 =
-    over-next s (rows ∷ columns ∷ n ∷ []) 24 0 12 (omega arith) e2 refl refl c12.put-word4.ensures in
+    over-next s (rows ∷ columns ∷ n ∷ []) 24 0 12 (omega arith) e2 refl refl c.put_word-4.ensures in
     let e4 =
-    over-next s (rows ∷ columns ∷ n ∷ 24 ∷ []) offset 0 16 (omega arith) e3 refl c8.narrow3.ensures
-    c4.before.before.before.put-word5.ensures in
+    over-next s (rows ∷ columns ∷ n ∷ 24 ∷ []) offset 0 16 (omega arith) e3 refl c.narrow-3.ensures
+    c.put_word-5.ensures in
     over-next s (rows ∷ columns ∷ n ∷ 24 ∷ offset ∷ []) total 0 20 (omega arith) e4 refl
-    c.before.before.before.narrow4.ensures
-    c.before.before.put-word6.ensures
+    c.narrow-4.ensures
+    c.put_word-6.ensures
 
-pub put-header-spec : {M : Type 1} → statement M
-put-header-spec =
+pub put_header_spec : {M : Type 1} → statement M
+put_header_spec =
     tie.close
     (tie.spec (λ c κs. search rules) (λ c. search rules) (λ c. search rules) (λ c. search rules) (λ c. search rules)
     (λ c. search rules) (λ c κs. search rules) narrow-requires (λ c κs. search rules) (λ c κs. search rules)

@@ -44,77 +44,70 @@ module _ (s : List ℕ) (hs : List ℤ) {t : List ℕ} (i : ℕ) (fits : 24 + 4 
       (omega (arith, bits-length)) same e
       ∙ ap (λ (vs : List ℕ). over s 24 (bytes_of vs)) more
 
-abbrev invariant-loop : tie.invariant-loop
+abbrev invariant-loop : tie.invariant-loop-i
 invariant-loop room₀ heights i₀ room i = (i ≤ length heights) × (room ≡ over room₀ 24 (bytes_of (bits_to heights i)))
 
-abbrev decreases-loop : tie.decreases-loop
+abbrev decreases-loop : tie.decreases-loop-i
 decreases-loop room₀ heights i₀ room i = length heights - i
 
-loop-holds : tie.Need-loop-init invariant-loop decreases-loop
+loop-holds : tie.Need-loop-i-init invariant-loop decreases-loop
 unfolding bits_to
-loop-holds c = (omega arith, over-nil c.before.args.room.now 24)
+loop-holds c = (omega arith, over-nil c.args.room.now 24)
 
-add-put-word : tie.Need-overflow-add-put-word invariant-loop decreases-loop
+add-put-word : tie.Need-overflow_add-i invariant-loop decreases-loop
 add-put-word c = omega arith
 
-mul-bits : tie.Need-overflow-mul-bits invariant-loop decreases-loop
+mul-bits : tie.Need-offset_bounds-heights-i invariant-loop decreases-loop
 mul-bits c = omega arith
 
-shared-slice-copy-out-bits : tie.Need-shared-slice-copy-out-bits invariant-loop decreases-loop
+shared-slice-copy-out-bits : tie.Need-bounds-heights-i invariant-loop decreases-loop
 shared-slice-copy-out-bits c = omega arith
 
-put-word-requires : tie.Need-put-word-requires invariant-loop decreases-loop
+put-word-requires : tie.Need-put_word-requires invariant-loop decreases-loop
 put-word-requires c κs =
-    let c4 = c.before.before.before.before in
-    let start = c4.before.before in
-    let loop = c4.loop in
+    let loop = c.loop-i in
     omega (
       arith,
-      laid-length start.args.room.now start.args.heights.now loop.i start.requires loop.invariant.0
+      laid-length c.args.room.now c.args.heights.now loop.i c.requires loop.invariant.0
           loop.invariant.1,
     )
 
-add-i : tie.Need-overflow-add-i invariant-loop decreases-loop
+add-i : tie.Need-overflow_add-i invariant-loop decreases-loop
 add-i c = omega arith
 
-loop-less : tie.Need-loop-smaller invariant-loop decreases-loop
+loop-less : tie.Need-loop-i-smaller invariant-loop decreases-loop
 loop-less c = omega arith
 
-loop-again : tie.Need-loop-preserved invariant-loop decreases-loop
+loop-again : tie.Need-loop-i-preserved invariant-loop decreases-loop
 loop-again c =
-    let c4 = c.before.before.before.before in
-    let c8 = c4.before.before.before.before in
-    let start = c8.before in
-    let loop = c4.before.before.before.loop in
-    let hs = start.args.heights.now in
+    let loop = c.loop-i in
+    let hs = c.args.heights.now in
     let value =
-    c.before.before.before.bits.ensures
-    ∙ ap bits_of (to_z-of_z w32 (get_or hs loop.i (pos 0)) (record { sfits = c4.bits-arg.given })) in (
+    c.bits.ensures
+    ∙ ap bits_of (to_z-of_z w32 (get_or hs loop.i (pos 0)) (record { sfits = c.bits-arg-1.given })) in (
       omega arith,
-      laid-step start.args.room.now hs loop.i start.requires loop.invariant.0 loop.invariant.1 (omega arith) value
-          c.before.before.put_word.ensures,
+      laid-step c.args.room.now hs loop.i c.requires loop.invariant.0 loop.invariant.1 (omega arith) value
+          c.put_word.ensures,
     )
 
-same_length : tie.Need-same-length invariant-loop decreases-loop
+same_length : tie.Need-shape_of-room invariant-loop decreases-loop
 same_length c =
-    let start = c.before.before.before in
-    let loop = c.before.loop in
-    laid-length start.args.room.now start.args.heights.now loop.i start.requires loop.invariant.0
+    let loop = c.loop-i in
+    laid-length c.args.room.now c.args.heights.now loop.i c.requires loop.invariant.0
     loop.invariant.1
 
 returns : tie.Need-returns invariant-loop decreases-loop
 unfolding bits_to
 returns c =
-    let start = c.before.before.before in
-    let loop = c.before.loop in
-    let hs = start.args.heights.now in
+    let loop = c.loop-i in
+    let hs = c.args.heights.now in
     let e : loop.i ≡ length hs = omega arith in
     loop.invariant.1
-    ∙ ap (λ (k : ℕ). over start.args.room.now 24 (bytes_of (map bits_of (take k hs)))) e
-    ∙ ap (λ (l : List ℤ). over start.args.room.now 24 (bytes_of (map bits_of l))) (take-length hs)
+    ∙ ap (λ (k : ℕ). over c.args.room.now 24 (bytes_of (map bits_of (take k hs)))) e
+    ∙ ap (λ (l : List ℤ). over c.args.room.now 24 (bytes_of (map bits_of l))) (take-length hs)
 
-pub put-heights-spec : {M : Type 1} → statement M
-put-heights-spec =
+pub put_heights_spec : {M : Type 1} → statement M
+put_heights_spec =
     tie.close
     (tie.spec invariant-loop decreases-loop loop-holds add-put-word mul-bits shared-slice-copy-out-bits (λ c κs. search rules)
     put-word-requires add-i loop-less loop-again same_length returns)

@@ -30,72 +30,66 @@ none-length : (level : ℕ → ℕ) (peaks : ℕ → List ℕ) → length (under
 unfolding under_passes
 none-length level peaks = refl
 
-abbrev invariant-loop : tie.invariant-loop
+abbrev invariant-loop : tie.invariant-loop-x
 invariant-loop work n q count₀ x₀ count x = Going (pass_in work n) n (Counting work n q count) x
 
-abbrev decreases-loop : tie.decreases-loop
+abbrev decreases-loop : tie.decreases-loop-x
 decreases-loop work n q count₀ x₀ count x = steps (pass_in work n) n x
 
-loop-holds : tie.Need-loop-init invariant-loop decreases-loop
+loop-holds : tie.Need-loop-x-init invariant-loop decreases-loop
 loop-holds c =
-    let start = c.before.before.before in
-    let a = start.args in
-    going_start start.requires.down (passes-few a.work.now a.n a.q)
-    (c.index.ensures ∙ c.before.get.ensures) (start.requires.strung, omega arith)
+    let a = c.args in
+    going_start c.requires.down (passes-few a.work.now a.n a.q)
+    (c.index-x.ensures ∙ c.get.ensures) (c.requires.strung, omega arith)
 
-count-peaks-requires : tie.Need-count-peaks-requires invariant-loop decreases-loop
-count-peaks-requires c κs = (going-now c.before.loop.invariant c.loop-test.true).0.0
+count-peaks-requires : tie.Need-count_peaks-count-requires invariant-loop decreases-loop
+count-peaks-requires c κs = (going-now c.loop-x.invariant c.loop-x-test.true).0.0
 
 -- the count with the peaks of x, and those of the passes behind it
-turn : (c : tie.After-count-peaks invariant-loop decreases-loop) →
-    let at-loop = c.before.before in
-    let a = at-loop.before.before.before.before.args in
+turn : (c : tie.After-count_peaks-count invariant-loop decreases-loop) →
+    let a = c.args in
     let s = a.work.now in
-    let tail = going-tail at-loop.loop.invariant c.before.loop-test.true in
-    at-loop.loop.count + c.count-peaks.result + length (under_passes (level_in s) (peaks_in s a.n) tail)
+    let tail = going-tail c.loop-x.invariant c.loop-x-test.true in
+    c.loop-x.count + c.count_peaks-count.result + length (under_passes (level_in s) (peaks_in s a.n) tail)
     ≡ length (children_in s a.n a.q)
 turn c =
-    let at-loop = c.before.before in
-    let a = at-loop.before.before.before.before.args in
+    let a = c.args in
     let s = a.work.now in
-    let g = at-loop.loop.invariant in
-    let l = c.before.loop-test.true in
+    let g = c.loop-x.invariant in
+    let l = c.loop-x-test.true in
     omega (
       arith,
-      c.count-peaks.ensures,
+      c.count_peaks-count.ensures,
       (going-now g l).1,
-      under-length (level_in s) (peaks_in s a.n) at-loop.loop.x (going-tail g l),
+      under-length (level_in s) (peaks_in s a.n) c.loop-x.x (going-tail g l),
     )
 
-add-count : tie.Need-overflow-add-count invariant-loop decreases-loop
-add-count c =
-    let start = c.before.before.before.before.before.before in omega (arith, turn c, start.requires.few)
+add-count : tie.Need-overflow_add-count invariant-loop decreases-loop
+add-count c = omega (arith, turn c, c.requires.few)
 
-loop-less : tie.Need-loop-smaller invariant-loop decreases-loop
+loop-less : tie.Need-loop-x-smaller invariant-loop decreases-loop
 loop-less c =
-    let at_test = c.before.before.before in
-    going_less at_test.before.loop.invariant at_test.loop-test.true
-    (c.index2.ensures ∙ c.before.get2.ensures)
+    going_less c.loop-x.invariant c.loop-x-test.true
+    (c.index-x-in-loop-x.ensures ∙ c.get-in-loop-x.ensures)
 
-loop-again : tie.Need-loop-preserved invariant-loop decreases-loop
+loop-again : tie.Need-loop-x-preserved invariant-loop decreases-loop
 loop-again c =
-    let at_test = c.before.before.before in
-    let g = at_test.before.loop.invariant in
-    let l = at_test.loop-test.true in
-    going_step g l (c.index2.ensures ∙ c.before.get2.ensures) ((going-now g l).0.1, turn c.before.before)
+    let g = c.loop-x.invariant in
+    let l = c.loop-x-test.true in
+    going_step g l (c.index-x-in-loop-x.ensures ∙ c.get-in-loop-x.ensures) ((going-now g l).0.1, turn c.before.before)
 
 returns : tie.Need-returns invariant-loop decreases-loop
 returns c =
-    let a = c.before.before.before.before.before.args in
+    let a = c.args in
     let s = a.work.now in
     omega (
       arith,
-      (going_done c.before.loop.invariant c.loop-test.false).1,
+      (going_done c.loop-x.invariant c.loop-x-test.false).1,
       none-length (level_in s) (peaks_in s a.n),
     )
 
-pub count-children-spec : {M : Type 1} → statement M
-count-children-spec =
+pub count_children_spec : {M : Type 1} → statement M
+count_children_spec =
     tie.close
     (tie.spec invariant-loop decreases-loop (λ c. omega arith) (λ c. omega arith) (λ c κs. omega arith) (λ c κs. search rules)
     loop-holds count-peaks-requires add-count (λ c. omega arith) (λ c. omega arith) (λ c κs. omega arith)

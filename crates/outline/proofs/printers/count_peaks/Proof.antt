@@ -12,50 +12,45 @@ use Rattle.outline.proofs.Chains.{going_done}
 use Rattle.outline.proofs.printers.count_peaks.Statement.{statement}
 use Rattle.outline.proofs.printers.count_peaks.Tie as tie
 
-abbrev invariant-loop : tie.invariant-loop
+abbrev invariant-loop : tie.invariant-loop-p
 invariant-loop work n x count₀ p₀ count p =
     Going (parent_in work n) n (λ rest. count + length rest ≡ length (peaks_in work n x)) p
 
-abbrev decreases-loop : tie.decreases-loop
+abbrev decreases-loop : tie.decreases-loop-p
 decreases-loop work n x count₀ p₀ count p = steps (parent_in work n) n p
 
-loop-holds : tie.Need-loop-init invariant-loop decreases-loop
+loop-holds : tie.Need-loop-p-init invariant-loop decreases-loop
 loop-holds c =
-    let start = c.before.before.before in
-    let a = start.args in
-    going_start start.requires.across (peaks-few a.work.now a.n a.x)
-    (c.cell_in.ensures ∙ ap cell_in c.before.get.ensures) (omega arith)
+    let a = c.args in
+    going_start c.requires.across (peaks-few a.work.now a.n a.x)
+    (c.cell_in-p.ensures ∙ ap cell_in c.get.ensures) (omega arith)
 
-add-count : tie.Need-overflow-add-count invariant-loop decreases-loop
+add-count : tie.Need-overflow_add-count invariant-loop decreases-loop
 add-count c =
-    let at-loop = c.before in
-    let start = at-loop.before.before.before.before in
-    let a = start.args in
+    let a = c.args in
     omega (
       arith,
-      going-now at-loop.loop.invariant c.loop-test.true,
+      going-now c.loop-p.invariant c.loop-p-test.true,
       peaks-few a.work.now a.n a.x,
-      start.requires.area.few,
+      c.requires.area.few,
     )
 
-loop-less : tie.Need-loop-smaller invariant-loop decreases-loop
+loop-less : tie.Need-loop-p-smaller invariant-loop decreases-loop
 loop-less c =
-    let at_test = c.before.before in
-    going_less at_test.before.loop.invariant at_test.loop-test.true
-    (c.index.ensures ∙ c.before.get2.ensures)
+    going_less c.loop-p.invariant c.loop-p-test.true
+    (c.index-p.ensures ∙ c.get-in-loop-p.ensures)
 
-loop-again : tie.Need-loop-preserved invariant-loop decreases-loop
+loop-again : tie.Need-loop-p-preserved invariant-loop decreases-loop
 loop-again c =
-    let at_test = c.before.before in
-    let g = at_test.before.loop.invariant in
-    going_step g at_test.loop-test.true (c.index.ensures ∙ c.before.get2.ensures)
-    (omega (arith, going-now g at_test.loop-test.true))
+    let g = c.loop-p.invariant in
+    going_step g c.loop-p-test.true (c.index-p.ensures ∙ c.get-in-loop-p.ensures)
+    (omega (arith, going-now g c.loop-p-test.true))
 
 returns : tie.Need-returns invariant-loop decreases-loop
-returns c = omega (arith, going_done c.before.loop.invariant c.loop-test.false)
+returns c = omega (arith, going_done c.loop-p.invariant c.loop-p-test.false)
 
-pub count-peaks-spec : {M : Type 1} → statement M
-count-peaks-spec =
+pub count_peaks_spec : {M : Type 1} → statement M
+count_peaks_spec =
     tie.close
     (tie.spec invariant-loop decreases-loop (λ c. omega arith) (λ c. omega arith) (λ c κs. omega arith) (λ c κs. search rules)
     loop-holds add-count (λ c. omega arith) (λ c. omega arith) (λ c κs. omega arith) (λ c κs. search rules) loop-less

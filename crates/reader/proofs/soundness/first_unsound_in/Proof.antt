@@ -19,10 +19,10 @@ use Rattle.reader.proofs.soundness.first_unsound_in.Tie as tie
 abbrev ScanOf : List ℕ → ℕ → ℕ → ℕ → ℕ → Type 0
 ScanOf f cells n = SoundBefore (heights_in f cells) (records_from f cells n)
 
-abbrev invariant-loop : tie.invariant-loop
+abbrev invariant-loop : tie.invariant-loop-i
 invariant-loop file cells n least₀ i₀ least i = ScanOf file cells n i least
 
-abbrev decreases-loop : tie.decreases-loop
+abbrev decreases-loop : tie.decreases-loop-i
 decreases-loop file cells n least₀ i₀ least i = n - i
 
 module _ (f : List ℕ) (cells n : ℕ) {i least : ℕ} {p : Peak} (scan : ScanOf f cells n i least) (l : i < n)
@@ -37,46 +37,44 @@ module _ (f : List ℕ) (cells n : ℕ) {i least : ℕ} {p : Peak} (scan : ScanO
       omega (arith, ap (λ (q : Peak). q.cell) same) in
       rw (add-one i) (rw behind at on)
 
-loop-holds : tie.Need-loop-init invariant-loop decreases-loop
-loop-holds c = let args = c.before.args in scan-start (heights_in args.file.now args.cells) _
+loop-holds : tie.Need-loop-i-init invariant-loop decreases-loop
+loop-holds c = let args = c.args in scan-start (heights_in args.file.now args.cells) _
 
-record-from-requires : tie.Need-record-from-requires invariant-loop decreases-loop
+record-from-requires : tie.Need-record_from-p-requires invariant-loop decreases-loop
 record-from-requires c κs = omega arith
 
-is-sound-in-requires : tie.Need-is-sound-in-requires invariant-loop decreases-loop
+is-sound-in-requires : tie.Need-is_sound_in-requires invariant-loop decreases-loop
 is-sound-in-requires c κs = omega arith
 
-returns : tie.Need-returns invariant-loop decreases-loop
+returns : tie.Need-returns-then-not-is_sound_in invariant-loop decreases-loop
 returns c =
-    let c4 = c.before.before.before.before in
-    let args = c4.before.before.args in
-    let scan = c4.loop.invariant in
+    let args = c.args in
+    let scan = c.loop-i.invariant in
     let record_is =
     same args.file.now args.cells args.n scan
-    c.before.before.before.loop-test.true c.before.before.record-from.ensures in
-    scan-stop scan (rw record_is (c.before.is-sound-in.ensures.fails (not-true _ c.if1.true)))
+    c.loop-i-test.true c.record_from-p.ensures in
+    scan-stop scan (rw record_is (c.is_sound_in.ensures.fails c.if-not-is_sound_in.true))
 
-add-i : tie.Need-overflow-add-i invariant-loop decreases-loop
+add-i : tie.Need-overflow_add-i invariant-loop decreases-loop
 add-i c = omega arith
 
-loop-less : tie.Need-loop-smaller invariant-loop decreases-loop
+loop-less : tie.Need-loop-i-smaller invariant-loop decreases-loop
 loop-less c = omega arith
 
-loop-again : tie.Need-loop-preserved invariant-loop decreases-loop
+loop-again : tie.Need-loop-i-preserved invariant-loop decreases-loop
 loop-again c =
-    let c4 = c.before.before.before.before in
-    let args = c4.before.before.before.args in
-    scan-on args.file.now args.cells args.n c4.before.loop.invariant c4.loop-test.true
-    c.before.before.before.record-from.ensures
-    (c.before.before.is-sound-in.ensures.holds (not-false _ c.before.if1.false)) c.next-cell.ensures.0
+    let args = c.args in
+    scan-on args.file.now args.cells args.n c.loop-i.invariant c.loop-i-test.true
+    c.record_from-p.ensures
+    (c.is_sound_in.ensures.holds c.if-not-is_sound_in.false) c.next_cell-least.ensures.0
 
-returns-2 : tie.Need-returns-2 invariant-loop decreases-loop
+returns-2 : tie.Need-returns invariant-loop decreases-loop
 returns-2 c =
-    let args = c.before.before.before.args in
-    scan-done c.before.loop.invariant (omega (arith, peaks-length args.file.now (6 + args.cells) args.n))
+    let args = c.args in
+    scan-done c.loop-i.invariant (omega (arith, peaks-length args.file.now (6 + args.cells) args.n))
 
-pub first-unsound-in-spec : {M : Type 1} → statement M
-first-unsound-in-spec =
+pub first_unsound_in_spec : {M : Type 1} → statement M
+first_unsound_in_spec =
     tie.close
     (tie.spec invariant-loop decreases-loop loop-holds record-from-requires is-sound-in-requires returns (λ c κs. search rules) add-i
     loop-less loop-again returns-2)

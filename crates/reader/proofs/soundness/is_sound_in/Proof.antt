@@ -9,17 +9,16 @@ use Rattle.reader.proofs.soundness.is_sound_in.Tie as tie
 
 returns : tie.Need-returns
 returns c =
-    let c4 = c.before.before.before.before in
-    let args = c4.before.before.args in
+    let args = c.args in
     let hs = heights_in args.file.now args.cells in
-    let here = c.before.before.before.height-in in
-    let there = c.before.height-in2 in
-    c.is-sound.ensures hs (heights-length args.file.now 6 args.cells)
-    (fetched hs (record { sfits = here.type-inv }) here.ensures c4.index.ensures)
-    (fetched hs (record { sfits = there.type-inv }) there.ensures c.before.before.index2.ensures)
+    let here = c.height_in-here in
+    let there = c.height_in-there in
+    c.is_sound.ensures hs (heights-length args.file.now 6 args.cells)
+    (fetched hs (record { sfits = here.type_inv }) here.ensures c.index.ensures)
+    (fetched hs (record { sfits = there.type_inv }) there.ensures c.index-2.ensures)
 
-pub is-sound-in-spec : {M : Type 1} → statement M
-is-sound-in-spec =
+pub is_sound_in_spec : {M : Type 1} → statement M
+is_sound_in_spec =
     tie.close
     (tie.spec (λ c κs. search rules) (λ c κs. search rules) (λ c κs. search rules) (λ c κs. search rules)
     (λ c κs. search rules) returns)
