@@ -50,7 +50,7 @@ slice-set-from-heights c =
       same args.file.now args.heights.now loop.heights loop.i (omega arith) loop.invariant.1,
     )
 
-add-i : tie.Need-overflow_add-i invariant-loop decreases-loop
+add-i : tie.Need-overflow_add-i-in-loop-i invariant-loop decreases-loop
 add-i c = omega arith
 
 loop-less : tie.Need-loop-i-smaller invariant-loop decreases-loop

@@ -48,7 +48,7 @@ put-header-requires c κs =
 put-heights-requires : tie.Need-put_heights-requires
 put-heights-requires c κs =
     let c4 = c.before.before.before.before.before in
-    omega (arith, (writable c4).long, c.put_header.auto.0)
+    omega (arith, (writable c4).long, c.put_header.auto.room)
 
 returns-2 : tie.Need-returns
 returns-2 c =
@@ -61,7 +61,7 @@ returns-2 c =
       answered = c.plan-answer.ensures;
       room =
           rw c.in_default.is
-          (laid_both args.room.now header.new.0 heights.new.0 args.rows args.n
+          (laid_both args.room.now header.new.room heights.new.room args.rows args.n
           args.heights.now (omega (arith, w.long)) header.ensures heights.ensures);
     }
 

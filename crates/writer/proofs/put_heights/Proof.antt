@@ -72,7 +72,7 @@ put-word-requires c κs =
           loop.invariant.1,
     )
 
-add-i : tie.Need-overflow_add-i invariant-loop decreases-loop
+add-i : tie.Need-overflow_add-i-in-loop-i invariant-loop decreases-loop
 add-i c = omega arith
 
 loop-less : tie.Need-loop-i-smaller invariant-loop decreases-loop
