@@ -14,7 +14,8 @@ loop-i-init c = (
 pub loop-i-preserved : goal.loop-i-preserved
 loop-i-preserved c =
     let room = c.requires.room in
-    let grows = peaks-grow c.args.file.now (6 + c.args.cells) c.args.count in
-    (omega arith,
+    let grows = peaks-grow c.args.file.now (6 + c.args.cells) c.args.count in (
+      omega arith,
       filled-next grows c.args.table.now c.loop-i.i c.loop-i-test.true (omega arith) c.loop-i.table c.record_from.result
-      c.loop-i.invariant.1 c.record_from.ensures)
+          c.loop-i.invariant.1 c.record_from.ensures,
+    )
