@@ -1,4 +1,6 @@
 // The account of a peak, why its key height is what it is; and the check of any such account.
+#![tactic(auto)]
+
 ghost use Rattle.std.specs.Prelude.{◌≡◌, ◌||◌, ltb, length};
 ghost use Rattle.heights.specs.Inner.{GoodGrid};
 ghost use Rattle.account.specs.Promises.{Accounts, Checks};

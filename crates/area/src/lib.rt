@@ -1,4 +1,6 @@
 // The work area of a grid: four quarters of 32-bit numbers, the marks that they may have, and the order of the cells.
+#![tactic(auto)]
+
 ghost use Rattle.std.specs.Prelude.{◌≡◌};
 ghost use Rattle.area.specs.Area.{cell_in, mark_in, mark_two_in};
 

@@ -1,5 +1,7 @@
 // The check of an account, whoever made it: floods, and a walk over each of its rows. The levels of the grid stand in
 // the first quarter of the work area; no cell is sorted, swept or listed.
+#![tactic(auto)]
+
 ghost use Rattle.std.specs.Prelude.{◌≡◌, ◌<◌};
 ghost use Rattle.relief.specs.Peaks.{Outranks};
 ghost use Rattle.relief.specs.Plane.{Near, plane_of, touch_of};

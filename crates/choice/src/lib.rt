@@ -1,4 +1,6 @@
 // Which cells of a swept grid are handed out: chosen, collected in the order quarter, and marked there.
+#![tactic(auto)]
+
 ghost use Rattle.std.specs.Prelude.{cond, ◌≡◌, ◌+◌, ◌<◌, ◌≤◌};
 ghost use Rattle.words.specs.Words.{Stored};
 ghost use Rattle.area.specs.Area.{Area, order_in, mark_in};

@@ -1,4 +1,6 @@
 // The island and the path of an account, written into lent rows.
+#![tactic(auto)]
+
 ghost use Rattle.std.specs.Prelude.{◌≡◌, List, ℕ, ◌≤◌, length};
 ghost use Rattle.relief.specs.Plane.{plane_of, touch_of};
 ghost use Rattle.relief.specs.Inner.{row_below};

@@ -1,4 +1,6 @@
 // A flood: the cells that a start reaches through cells at or above a level, in the order in which they are reached.
+#![tactic(auto)]
+
 ghost use Rattle.std.specs.Prelude.{◌≡◌, cond, ◌+◌, ◌≤◌, ◌<◌, ltb};
 ghost use Rattle.relief.specs.Plane.{plane_of, touch_of};
 ghost use Rattle.area.specs.Area.{Area, order_in, parent_in};

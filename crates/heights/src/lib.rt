@@ -1,4 +1,6 @@
 // A lent grid of heights: the tests before the work, and its levels put into the work area.
+#![tactic(auto)]
+
 ghost use Rattle.std.specs.Prelude.{◌≡◌};
 ghost use Rattle.record.specs.Refusals.{first_of};
 ghost use Rattle.heights.specs.Grid.{grid_tests};

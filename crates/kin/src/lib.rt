@@ -1,4 +1,6 @@
 // Peaks under peaks: the listed peaks of a swept grid linked, each to the passes under it and each pass to its peaks.
+#![tactic(auto)]
+
 ghost use Rattle.std.specs.Prelude.{◌≡◌, ◌<◌};
 ghost use Rattle.relief.specs.Plane.{plane_of, touch_of};
 ghost use Rattle.area.specs.Area.{Area, pass_of};

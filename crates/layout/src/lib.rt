@@ -1,5 +1,7 @@
 // The run file in bytes: its numbers and its records, what writing and reading it come to, and what the calls for C
 // share.
+#![tactic(auto)]
+
 pub mod handed; // handed.rt: what the calls for C share
 mod numbers; // numbers.rt: the two's complement of a height, a number in four bytes
 pub mod records; // records.rt: records in bytes

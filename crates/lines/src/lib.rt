@@ -1,4 +1,6 @@
 // The lines of an outline, counted or written into lent bytes.
+#![tactic(auto)]
+
 mod pieces; // pieces.rt: a byte, a name, a number, a height
 
 ghost use Rattle.std.specs.Prelude.{length};

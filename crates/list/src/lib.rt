@@ -1,4 +1,6 @@
 // The whole-grid call: the flat core behind the refusals, and the lent row of records filled from it.
+#![tactic(auto)]
+
 ghost use Rattle.std.specs.Prelude.{length};
 ghost use Rattle.heights.specs.Inner.{GoodGrid};
 ghost use Rattle.list.specs.Promises.{Lists};

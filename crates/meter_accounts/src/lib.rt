@@ -1,5 +1,7 @@
 // Calls for the benchmark to time beside the list: an account given, and an account checked. They are there to be
 // measured from C++, and answer one signed number, as the C entry does. A C interface for all calls will replace them.
+#![tactic(auto)]
+
 ghost use Rattle.std.specs.Prelude.{◌≡◌};
 ghost use Rattle.layout.specs.Promises.{signed_told};
 ghost use Rattle.account.specs.Promises.{accounted_told, verdict_told};

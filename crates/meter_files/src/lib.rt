@@ -1,6 +1,8 @@
 // Calls for the benchmark to time beside the list: the run file written and read. They are there to be measured from
 // C++, which lends no row of records (`Peak` has no layout of C): records go as bytes in the file's layout, as they do
 // at the C entry, and the answer is one signed number. A C interface for all calls will replace them.
+#![tactic(auto)]
+
 ghost use Rattle.std.specs.Prelude.{◌≡◌, ◌+◌, ◌*◌};
 ghost use Rattle.sound.specs.Sound.{FirstUnsound};
 ghost use Rattle.layout.specs.Layout.{bytes_of, all_fields_of, peaks_from};

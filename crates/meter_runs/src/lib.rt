@@ -2,6 +2,8 @@
 // to be measured from C++, which lends no row of records (`Peak` has no layout of C): a batch goes as bytes in the
 // file's layout, as it does at the C entry, and the answer is one signed number. A C interface for all calls will
 // replace them.
+#![tactic(auto)]
+
 ghost use Rattle.std.specs.Prelude.{◌≡◌, ◌+◌, ◌*◌};
 ghost use Rattle.layout.specs.Promises.{signed_told};
 ghost use Rattle.running.specs.Running.{growing_run, with_end};

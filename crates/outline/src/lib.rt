@@ -1,4 +1,6 @@
 // The outline of lesser peaks under greater ones, of an ended run, as text in lent bytes.
+#![tactic(auto)]
+
 mod printers; // printers.rt: a peak and its passes, a pass and its peaks
 mod tops; // tops.rt: all tops in reading order
 

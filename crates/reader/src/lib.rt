@@ -1,4 +1,6 @@
 // The run file read, all but the row of records: the answer of `read`, and the heights.
+#![tactic(auto)]
+
 mod soundness; // soundness.rt: which records of a file are sound
 
 ghost use Rattle.std.specs.Prelude.{◌++◌, ◌≡◌, ◌+◌, ◌*◌, ◌<◌, ◌≤◌, length, drop};

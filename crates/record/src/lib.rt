@@ -1,4 +1,6 @@
 // The cell and record types, their constants and constructors, level and prominence, answers and refusals.
+#![tactic(auto)]
+
 ghost use Rattle.std.specs.Prelude.{not, ◌≡◌, ◌*◌, ◌%◌, eqb, ltb};
 ghost use Rattle.relief.specs.Heights.{level_of};
 ghost use Rattle.scale.specs.Prominence.{is_mark, Prominent};

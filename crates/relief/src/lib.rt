@@ -1,2 +1,3 @@
 // Paths, flats, peaks, outranking ground, key heights, islands, passes and closing:
 // definitions and mathematics, no code.
+#![tactic(auto)]

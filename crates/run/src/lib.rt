@@ -1,4 +1,6 @@
 // A growing run: Start, Column and End, over the flat core, and the lent row of records filled from it.
+#![tactic(auto)]
+
 ghost use Rattle.std.specs.Prelude.{◌≡◌, ◌+◌, ◌≤◌, length};
 ghost use Rattle.std.proofs.Math.Seq.{paste};
 ghost use Rattle.run.specs.Promises.{Starts, Columns, Ends};

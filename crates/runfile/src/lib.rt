@@ -1,4 +1,6 @@
 // Writing and reading the run file, with the records in a lent row.
+#![tactic(auto)]
+
 ghost use Rattle.std.specs.Prelude.{◌≡◌};
 ghost use Rattle.sound.specs.Sound.{FirstUnsound};
 ghost use Rattle.reader.specs.Inner.{Takable, filled_from};

@@ -1,4 +1,6 @@
 // The run record: how far a run is, what becomes of it, and the tests before the work of each call that takes it.
+#![tactic(auto)]
+
 pub mod records; // records.rt: what is read from a run record, and what becomes of it
 pub mod tests; // tests.rt: the tests before the work
 

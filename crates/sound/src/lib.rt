@@ -1,4 +1,6 @@
 // Which records are sound in a grid: the test of one record, and a scan of a row of them.
+#![tactic(auto)]
+
 ghost use Rattle.std.specs.Prelude.{◌≡◌, ◌+◌, ◌<◌, ◌≤◌, get_or};
 ghost use Rattle.relief.specs.Heights.{BLANK};
 ghost use Rattle.relief.specs.Inner.{Decides};

@@ -1,4 +1,6 @@
 // The C entry: a whole grid listed for the control suite, heights and records passed as bytes in the file's layouts.
+#![tactic(auto)]
+
 ghost use Rattle.std.specs.Prelude.{◌≡◌, ◌*◌, ◌≤◌, length};
 ghost use Rattle.record.specs.Refusals.{first_of};
 ghost use Rattle.area.specs.Area.{Area};

@@ -1,4 +1,6 @@
 // The records that a survey leaves in the work area, filled into a lent row of records.
+#![tactic(auto)]
+
 ghost use Rattle.std.specs.Prelude.{◌≡◌, ◌++◌, ◌<◌, drop};
 ghost use Rattle.area.specs.Area.{order_in};
 ghost use Rattle.table.specs.Inner.{Pointed, peak_in, records_in, Fillable, room_answer, count_in, cells_read};

@@ -1,4 +1,6 @@
 // 32-bit numbers in lent bytes, little-endian, reached by their place.
+#![tactic(auto)]
+
 ghost use Rattle.std.specs.Prelude.{◌≡◌, ◌+◌, ◌*◌, ◌<◌, ◌≤◌, length};
 ghost use Rattle.words.specs.Words.{word_at, Stored};
 

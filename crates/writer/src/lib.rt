@@ -1,4 +1,6 @@
 // The run file written, all but the row of records: the answer of `write`, and header and heights in the room.
+#![tactic(auto)]
+
 ghost use Rattle.std.specs.Prelude.{[], ◌∷◌, map, ◌≡◌, ◌+◌, ◌*◌, ◌<◌, ◌≤◌, length};
 ghost use Rattle.record.specs.Refusals.{granted, first_of, told_by};
 ghost use Rattle.layout.specs.Layout.{bits_of, bytes_of, header_of, total_of};

@@ -11,15 +11,12 @@ use Rattle.layout.proofs.handed.hand_out.Tie as tie
 
 lay-records-requires : tie.Need-lay_records-requires
 lay-records-requires c κs =
-    let at_count = c.before in
     let a = c.args in
     rw (c.cells_of-read.ensures, c.count_of-count.ensures)
     (handed-puttable a.work.now a.cells a.table.now a.handed c.requires)
 
 returns : tie.Need-returns
 returns c =
-    let at-lay = c.before.before.before in
-    let at_count = at-lay.before.before in
     let a = c.args in
     let told = to_z-of_z w64 _ (record { sfits = c.handed_number.type_inv }) ∙ c.handed_number.ensures in
     record {

@@ -3,7 +3,6 @@ use mathlib.Core.Bool.{not}
 use mathlib.Core.Path.{refl, ap}
 use native.Mathlib.Omega.{arith}
 use borrow.Author.Rules.{rules}
-use borrow.Author.Tests.{not-false}
 use Rattle.words.proofs.Over.{over-set}
 use Rattle.lines.proofs.Printing.{printed-counted, printed-laid}
 use Rattle.lines.proofs.pieces.byte.Statement.{statement}

@@ -5,7 +5,6 @@ use mathlib.Core.Path.{refl, ap}
 use Prim.Native.Nat.{◌+◌, ◌≤◌}
 use native.Mathlib.Omega.{arith}
 use borrow.Author.Rules.{rules}
-use borrow.Author.Tests.{not-false}
 use lib.ListN.{length, length-set}
 use Rattle.words.proofs.Over.{over-set, over-push}
 use Rattle.lines.proofs.Printing.{printed-counted, printed-laid}

@@ -4,7 +4,6 @@ use mathlib.Core.Path.{ap}
 use Prim.Native.Nat.{ℕ, ◌+◌}
 use native.Mathlib.Omega.{arith}
 use borrow.Author.Rules.{rules}
-use borrow.Author.Tests.{not-false}
 use Rattle.lines.proofs.Printing.{printed-counted, printed-laid}
 use Rattle.lines.proofs.pieces.number.Statement.{statement}
 use Rattle.lines.proofs.pieces.number.Tie as tie

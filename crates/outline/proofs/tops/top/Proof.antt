@@ -2,7 +2,6 @@
 -- nothing.
 use mathlib.Core.Path.{sym, ◌∙◌}
 use borrow.Author.Rules.{rules}
-use borrow.Author.Tests.{not-true, not-false}
 use Rattle.outline.proofs.TopsLoop.{top-none, top-asked, top-done}
 use Rattle.outline.proofs.tops.top.Statement.{statement}
 use Rattle.outline.proofs.tops.top.Tie as tie
