@@ -26,7 +26,6 @@ use Rattle.table.proofs.Handed.{worked-unique}
 use Rattle.account.specs.declared.Accounted.{Accounted}
 use Rattle.account.specs.declared.Accounted.TheVariants as Given
 use Rattle.account.specs.declared.Verdict.{Verdict}
-use Rattle.account.specs.declared.Verdict.TheVariants as Verdict
 use Rattle.account.specs.Promises.{accounted_told, verdict_told, check_tests, account_tests, row_after}
 use Rattle.account.proofs.Answers.{check-early, check-no-peak, account-early}
 use Rattle.account.specs.Claims.{AccountedDiffer, VerdictDiffer, AccountUnique, CheckUnique, AccountPasses}

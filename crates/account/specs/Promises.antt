@@ -22,7 +22,6 @@ use Rattle.table.specs.Promises.{Worked}
 use Rattle.account.specs.declared.Accounted.{Accounted}
 use Rattle.account.specs.declared.Accounted.TheVariants as Account
 use Rattle.account.specs.declared.Verdict.{Verdict}
-use Rattle.account.specs.declared.Verdict.TheVariants as Verdict
 
 -- The level of the key height, 0 for none, and how many cells path and island have.
 abbrev pub accounted_told : Accounted → Told

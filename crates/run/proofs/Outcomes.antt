@@ -21,7 +21,7 @@ use Rattle.record.specs.declared.Refusal.TheVariants.{Rows}
 use Rattle.record.specs.declared.Checked.{Checked}
 use Rattle.record.specs.declared.Checked.TheVariants.{Good, Bad}
 use Rattle.record.specs.declared.Handed.{Handed}
-use Rattle.record.specs.declared.Handed.TheVariants.{Count, Refused}
+use Rattle.record.specs.declared.Handed.TheVariants.{Count}
 use Rattle.record.specs.Refusals.{Told, first_of, checked_told, bad_rows}
 use Rattle.record.proofs.Refusals.{refusals-differ, told-refused}
 use Rattle.table.proofs.Handed.{told-passed, hands-unique, flat-unique}
