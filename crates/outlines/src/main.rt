@@ -1,5 +1,7 @@
 // The program that prints the outline of a run file: it reads one on standard input and lists its heights afresh at
 // threshold 1.
+#![tactic(auto)]
+
 ghost use Rattle.std.specs.Prelude.{◌≤◌, length};
 
 use intake::{INPUT, MOST_CELLS};

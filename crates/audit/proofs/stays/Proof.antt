@@ -4,7 +4,6 @@ use Prim.Native.Nat.{ℕ, ◌-◌, ◌≤◌, ◌<◌}
 use native.Mathlib.Omega.{arith}
 use lib.ListN.{length, get_or}
 use borrow.Author.Count.{below_more}
-use borrow.Author.Tests.{not-true, not-false}
 use Rattle.relief.specs.Plane.{plane_of, touch_of}
 use Rattle.relief.specs.Inner.{cut}
 use Rattle.relief.proofs.Tests.{confirmed, refuted}

@@ -4,7 +4,6 @@ use mathlib.Core.Path.{◌≡◌, refl, sym, ◌∙◌, ap}
 use mathlib.Core.Bool.{true}
 use native.Mathlib.Omega.{arith}
 use borrow.Author.Rules.{rules}
-use borrow.Author.Tests.{not-true, not-false}
 use Rattle.area.specs.Area.{level_in, parent_in}
 use Rattle.kin.specs.Inner.{listed, left, top, hung}
 use Rattle.kin.proofs.ListedCells.{listed-land, listed-key}

@@ -5,7 +5,6 @@ use mathlib.Core.Bool.{true}
 use Prim.Native.Nat.{◌<◌}
 use native.Mathlib.Omega.{arith}
 use borrow.Author.Rules.{rules}
-use borrow.Author.Tests.{not-true, not-false}
 use Rattle.area.specs.Area.{parent_in, pass_of, cell_in, mark_in}
 use Rattle.kin.specs.Inner.{Put, left, put}
 use Rattle.kin.proofs.Stores.{stored-pass}

@@ -7,11 +7,11 @@ use borrow.Author.Rules.{rules}
 use Rattle.meter_runs.proofs.cells_with.Statement.{statement}
 use Rattle.meter_runs.proofs.cells_with.Tie as tie
 
-add-result : tie.Need-overflow-add-result
-add-result c = record { fits = omega (arith, c.before.times.ensures.1) }
+add-result : tie.Need-overflow_add-result
+add-result c = record { fits = omega (arith, c.times.ensures.1) }
 
 returns : tie.Need-returns
-returns c = ap₂ ◌+◌ c.before.times.ensures.0 c.index.ensures
+returns c = ap₂ ◌+◌ c.times.ensures.0 c.index.ensures
 
-pub cells-with-spec : {M : Type 1} → statement M
-cells-with-spec = tie.close (tie.spec (λ c κs. search rules) (λ c κs. search rules) add-result returns)
+pub cells_with_spec : {M : Type 1} → statement M
+cells_with_spec = tie.close (tie.spec (λ c κs. search rules) (λ c κs. search rules) add-result returns)

@@ -9,16 +9,15 @@ use Rattle.meter_runs.proofs.meter_outline.Tie as tie
 
 returns : tie.Need-returns
 returns c =
-    let at-outline = c.before.before.before.before.before in
-    let made = at-outline.before.before.before.growing in
+    let made = c.growing-run in
     record {
-      outlined = at-outline.outline.result;
-      outlines = rw made.ensures at at-outline.outline.ensures;
-      answered = to_z-of_z w64 _ (record { sfits = c.outlined-number.type-inv }) ∙ c.outlined-number.ensures;
+      outlined = c.outline-outlined.result;
+      outlines = rw made.ensures at c.outline-outlined.ensures;
+      answered = to_z-of_z w64 _ (record { sfits = c.outlined_number.type_inv }) ∙ c.outlined_number.ensures;
     }
 
-pub meter-outline-spec : {M : Type 1} → statement M
-meter-outline-spec =
+pub meter_outline_spec : {M : Type 1} → statement M
+meter_outline_spec =
     tie.close
     (tie.spec (λ c κs. search rules) (λ c κs. search rules) (λ c κs. search rules) (λ c. search rules)
     (λ c. search rules) returns)

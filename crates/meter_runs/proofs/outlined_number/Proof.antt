@@ -12,17 +12,17 @@ use Rattle.layout.proofs.HandedBytes.{count-read}
 use Rattle.meter_runs.proofs.outlined_number.Statement.{statement}
 use Rattle.meter_runs.proofs.outlined_number.Tie as tie
 
-returns : tie.Need-returns
+returns : tie.Need-returns-in-Bytes
 returns c =
-    count-read c.before.outlined.given.0.0 (omega arith)
-    ∙ sym (ap (λ (a : Outlined). signed_told (outlined_told a)) c.before.outlined.given.1)
+    count-read c.in-Bytes.n (omega arith)
+    ∙ sym (ap (λ (a : Outlined). signed_told (outlined_told a)) c.in-Bytes.is)
 
-returns-2 : tie.Need-returns-2
+returns-2 : tie.Need-returns-in-Refused
 returns-2 c =
-    to_z-of_z w64 _ (record { sfits = c.refused-number.type-inv }) ∙ c.refused-number.ensures
-    ∙ sym (ap (λ (a : Outlined). signed_told (outlined_told a)) c.before.before.outlined2.given.1)
+    to_z-of_z w64 _ (record { sfits = c.refused_number.type_inv }) ∙ c.refused_number.ensures
+    ∙ sym (ap (λ (a : Outlined). signed_told (outlined_told a)) c.in-Refused.is)
 
-pub outlined-number-spec : {M : Type 1} → statement M
-outlined-number-spec =
+pub outlined_number_spec : {M : Type 1} → statement M
+outlined_number_spec =
     tie.close
     (tie.spec (λ c. search rules) (λ c. search rules) (λ c. search rules) (λ c κs. search rules) returns returns-2)

@@ -24,14 +24,12 @@ bytes_inside {room = room} n h e f =
     let long = ap length (h.written ∙ ap (λ (x : Outlined). text_after x h.text room) e) in
     omega (arith, long ∙ length-append h.text (drop n room))
 
-returns : tie.Need-returns
+returns : tie.Need-returns-in-Bytes
 returns c =
-    let at-outlined = c.before.before in
-    let at-outline = at-outlined.before.before.before.before.before in
-    bytes_inside _ at-outline.outline.ensures at-outlined.outlined.given.1 c.index.ensures
+    bytes_inside _ c.outline-outlined.ensures c.in-Bytes.is c.index.ensures
 
-pub put-outline-spec : {M : Type 1} → statement M
-put-outline-spec =
+pub put_outline_spec : {M : Type 1} → statement M
+put_outline_spec =
     tie.close
     (tie.spec (λ c. search rules) (λ c κs. tt) (λ c. search rules) (λ c κs. tt) (λ c. search rules) (λ c κs. tt)
     (λ c. search rules) returns (λ c. search rules) (λ c. search rules))

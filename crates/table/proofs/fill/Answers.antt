@@ -1,5 +1,5 @@
 -- `table::fill` meets its contract: a record stored is one more of the order. Assumes nothing.
-use Rattle.std.proofs.Common.{◌<◌, ◌≤◌, length, sym, arith}
+use Rattle.std.proofs.Common.{sym, arith}
 use Rattle.table.proofs.Grows.{filled-start, filled-next}
 use Rattle.table.proofs.Laws.{records-grow}
 use Rattle.table.proofs.fill.Goals as goal
