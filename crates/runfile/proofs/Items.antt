@@ -1,7 +1,7 @@
 -- The i-th record as the code reads it off a row that has it.
 --     item_is     it is the i-th of the row, whatever stands for a missing one
 -- Assumes nothing.
-use Rattle.std.proofs.Common.{◌≡◌, ◌<◌, List, ℕ, ℤ, pos, length, get_or}
+use Rattle.std.proofs.Common.{◌≡◌, ◌<◌, List, ℕ, pos, length, get_or}
 use Rattle.std.proofs.lemmas.List.{get_or_default}
 use Rattle.relief.specs.Heights.{BLANK}
 use Rattle.record.specs.declared.Peak.{Peak}

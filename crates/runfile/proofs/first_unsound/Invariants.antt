@@ -1,5 +1,5 @@
 -- The state is that of a scan before the i-th record.
-use Rattle.std.proofs.Common.{◌-◌, ◌≤◌, length}
+use Rattle.std.proofs.Common.{◌-◌, ◌≤◌}
 use Rattle.sound.proofs.Scans.{Scanned}
 use Rattle.runfile.proofs.first_unsound.Given as goal
 

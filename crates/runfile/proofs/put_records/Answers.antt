@@ -1,5 +1,5 @@
 -- `put_records` meets its contract: a record put is one more of the row. Assumes nothing.
-use Rattle.std.proofs.Common.{◌<◌, length, List, ℕ, ap, sym, ◌∙◌, arith}
+use Rattle.std.proofs.Common.{List, ℕ, ap, sym, ◌∙◌, arith}
 use Rattle.record.specs.declared.Peak.{Peak}
 use Rattle.words.specs.Words.{over}
 use Rattle.sound.specs.Sound.{ith_of}

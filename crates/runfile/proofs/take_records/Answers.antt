@@ -1,6 +1,5 @@
 -- `take_records` meets its contract: a record stored is one more of the file. Assumes nothing.
-use Rattle.std.proofs.Common.{◌+◌, ◌<◌, ◌≤◌, length, sym, arith}
-use Rattle.layout.specs.Layout.{total_of}
+use Rattle.std.proofs.Common.{◌+◌, sym, arith}
 use Rattle.layout.proofs.Rows.{peaks-grow}
 use Rattle.table.proofs.Grows.{filled-start, filled-next}
 use Rattle.runfile.proofs.take_records.Goals as goal
