@@ -23,14 +23,13 @@ for program in ("peaks", "outlines"):
     shown = "".join(f"    {line}\n" for line in page(f"crates/{program}/stdout").splitlines())
     assert shown in page("README.md"), program
 
-# crates.txt reads from the bottom up, but for the crates of the kit. Each crate has its row in the README and in
+# crates.txt reads from the bottom up, and names no crate of the kit. Each crate has its row in the README and in
 # CONTRIBUTING.md, each row its crate.
 lines = [line.split("#")[0].split(":") for line in page("crates.txt").splitlines()]
-named = {name.split()[0] for name, _ in lines}
 below = {}
 for kind, needs in lines:
     name = kind.split()[0]
-    needs = set(needs.split()) & named
+    needs = set(needs.split())
     assert needs <= set(below), kind
     below[name] = needs.union(*(below[need] for need in needs))
 for table in ("README.md", "CONTRIBUTING.md"):
