@@ -3,7 +3,7 @@
 
 usage: respell.py [FOLDER]      once, right after the kit's port.py, at the top of the repository or in FOLDER
 
-A word that is a function of specs/ or proofs/ was in camel case. Two lemmas have
+A word that is a function of specs/ or proofs/ was in camel case, and some fields of records had a dash. Two lemmas have
 the name that their word now gets, and take `_lem` behind it, as the kit's do. Functions of src/, exported names,
 strings, inputs and outputs keep their names. The pages that name such words are turned too, the landing notes not: they
 tell what was.
@@ -215,10 +215,39 @@ WORDS = {
     "writtenTold": "written_told",
 }
 
+# Fields of the records of specs/ in which a dash stood still; lemmas and claims keep the dash between their parts.
+FIELDS = {
+    "at-r": "at_r",
+    "at-u": "at_u",
+    "children-right": "children_right",
+    "ends-after": "ends_after",
+    "first-in": "first_in",
+    "first-root": "first_root",
+    "from-root": "from_root",
+    "grid-after": "grid_after",
+    "island-after": "island_after",
+    "island-room": "island_room",
+    "levels-in": "levels_in",
+    "limit-few": "limit_few",
+    "no-root": "no_root",
+    "parents-left": "parents_left",
+    "passes-left": "passes_left",
+    "path-after": "path_after",
+    "root-flat": "root_flat",
+    "root-own": "root_own",
+    "rows-some": "rows_some",
+    "run-after": "run_after",
+    "to-root": "to_root",
+    "top-peak": "top_peak",
+    "tops-right": "tops_right",
+}
+
 WORD = re.compile(r"(?<![\w'])[^\W\d]\w*(?![\w'])")
+DASHED = re.compile(r"(?<![\w'-])[^\W\d][\w']*(?:-[\w']+)+(?![\w'-])")
 
 
 def turned(text, names):
+    text = DASHED.sub(lambda m: FIELDS.get(m[0], m[0]), text)
     return WORD.sub(lambda m: names.get(m[0], m[0]), text)
 
 

@@ -104,8 +104,8 @@ module _ (rows : ℕ) (heights : List ℤ) (cell : ℕ) (work : List ℕ) where
         right = λ good. bad-not-good refused good;
         answered = sym (told-by (granted (0 ∷ 0 ∷ 0 ∷ [])) refused);
         fits = tt;
-        path-after = refl;
-        island-after = refl;
+        path_after = refl;
+        island_after = refl;
         worked = worked-early same;
       }
 
@@ -113,7 +113,7 @@ module _ (rows : ℕ) (heights : List ℤ) (cell : ℕ) (work : List ℕ) where
 
 -- the levels are loaded and swept: the cell is a peak's just if k is below its level, and then k is the key height
 pub record Asked (rows : ℕ) (heights : List ℤ) (cell : ℕ) (work left : List ℕ) (k : ℕ) : Type 0 where
-  pub levels-in : cut (length heights) (level_in left) ≡ levels heights
+  pub levels_in : cut (length heights) (level_in left) ≡ levels heights
   pub slope : levels heights cell ≤ k → Peak (touch_of (plane_of rows)) (levels heights) cell → ⊥
   pub peak : k < levels heights cell → Peak (touch_of (plane_of rows)) (levels heights) cell
   pub none : k < levels heights cell → k ≡ 0 → NoKey (touch_of (plane_of rows)) (levels heights) cell
@@ -127,7 +127,7 @@ pub asked : {rows : ℕ} {heights : List ℤ} {cell p n r k : ℕ} {work a left 
 asked {rows} {heights} {cell} {p} {n} {r} {k} {work} {a} {left} en er ep loaded told =
     let L : cut n (level_in a) ≡ levels heights = loaded-levels (sym en) loaded in
     record {
-      levels-in = rw (sym en) (cut-equal n (level_in left) (level_in a) told.levels-in ∙ L);
+      levels_in = rw (sym en) (cut-equal n (level_in left) (level_in a) told.levels_in ∙ L);
       slope = rw (sym er, sym ep, sym L) told.slope;
       peak = rw (sym er, sym ep, sym L) told.peak;
       none = rw (sym er, sym ep, sym L) told.none;
@@ -141,7 +141,7 @@ pub level-is : {rows : ℕ} {heights : List ℤ} {cell : ℕ} {work left : List 
     → Asked rows heights cell work left k → {n p l : ℕ} → n ≡ length heights → p ≡ cell
     → l ≡ cut n (level_in left) p → l ≡ levels heights cell
 level-is {heights = heights} {left = left} h {n} {p} en ep e =
-    e ∙ ap (λ (m : ℕ). cut m (level_in left) p) en ∙ ap (λ (M : ℕ → ℕ). M p) h.levels-in ∙ ap (levels heights) ep
+    e ∙ ap (λ (m : ℕ). cut m (level_in left) p) en ∙ ap (λ (M : ℕ → ℕ). M p) h.levels_in ∙ ap (levels heights) ep
 
 module _ {rows : ℕ} {heights : List ℤ} {cell : ℕ} {work left : List ℕ} {k : ℕ} (path island : List ℕ)
     (g : GoodGrid rows (length heights) (length work)) (h : Asked rows heights cell work left k) where
@@ -164,8 +164,8 @@ module _ {rows : ℕ} {heights : List ℤ} {cell : ℕ} {work left : List ℕ} {
     right = λ good. bad-not-good bad good;
     answered = sym (told-by (granted (0 ∷ 0 ∷ 0 ∷ [])) bad);
     fits = tt;
-    path-after = refl;
-    island-after = refl;
+    path_after = refl;
+    island_after = refl;
     worked = worked-late g.good h.len h.beyond;
   }
 
@@ -196,17 +196,17 @@ module _ {rows : ℕ} {heights : List ℤ} {cell : ℕ} {work left : List ℕ} {
         let (a, b) = or-false (ltb (length path) (length heights)) (ltb (length island) (length heights)) (sym e ∙ f) in
         let pa = ltb-false (length path) (length heights) a in
         let pb = ltb-false (length island) (length heights) b in
-        let L = h.levels-in in
+        let L = h.levels_in in
         rw (en, er, ep) (record {
           area = record { few = g.fits; room = let x = g.space in let y = h.len in omega arith };
-          rows-some = g.some;
+          rows_some = g.some;
           rows_few = g.few;
           above = rw L above;
           peak = rw L (h.peak above);
           none = rw L (h.none above);
           some = rw L (h.some above);
           path_room = pa;
-          island-room = pb;
+          island_room = pb;
         })
 
     pub account-made : short ≡ false → {n r p : ℕ} → n ≡ length heights → r ≡ rows → p ≡ cell
@@ -220,10 +220,10 @@ module _ {rows : ℕ} {heights : List ℤ} {cell : ℕ} {work left : List ℕ} {
           key = d.key;
           way = d.way;
           isle = d.isle;
-          right = λ good. rw (sym er, sym ep, sym h.levels-in, sym en) d.right;
+          right = λ good. rw (sym er, sym ep, sym h.levels_in, sym en) d.right;
           answered = d.answered ∙ sym (told-by (granted (d.key ∷ length d.way ∷ length d.isle ∷ [])) passed);
           fits = d.fits;
-          path-after = d.path-after;
-          island-after = d.island-after;
+          path_after = d.path_after;
+          island_after = d.island_after;
           worked = worked-late g.good (d.len ∙ h.len) (λ i l. d.beyond i (omega arith) ∙ h.beyond i l);
         }

@@ -46,7 +46,7 @@ module _ {rows : ℕ} {s : List ℕ} {n p k : ℕ} {path island : List ℕ} (w :
       let (cell, h) = cut-land n (level_in s) p {k = suc k} (omega arith) (omega arith) in
       record {
         area = record { few = w.area.few; room = let r = w.area.room in omega arith };
-        rows-some = w.rows-some;
+        rows_some = w.rows_some;
         rows_few = w.rows_few;
         cell = cell;
         above = let e = same p cell in omega arith;
@@ -93,8 +93,8 @@ module _ {rows : ℕ} {s : List ℕ} {n p k : ℕ} {path island : List ℕ} (w :
       right = own;
       answered = told ek (eu ∙ q.filled.count) (ev ∙ h.filled.count);
       fits = fits;
-      path-after = q.filled.cells_in;
-      island-after = h.filled.cells_in;
+      path_after = q.filled.cells_in;
+      island_after = h.filled.cells_in;
       beyond = bytes-stay s t n bs bt (λ j m. q.back j m ∙ h.back j m);
       len = q.len ∙ h.len;
     }

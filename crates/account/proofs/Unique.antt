@@ -126,10 +126,10 @@ account-unique rows heights cell work w v path t u island k l a b h i =
     (h.answered ∙ told-either tests _ _ (λ good. let (ek, ew, ei) = one good in rw (ek, ew, ei) refl)
     ∙ sym answered-i) in (
       same,
-      h.path-after ∙ row-either a tests _ h.way i.way path h.answered (λ good. (one good).1)
-          ∙ ap (λ (x : Accounted). row_after x i.way path) same ∙ sym i.path-after,
-      h.island-after ∙ row-either a tests _ h.isle i.isle island h.answered (λ good. (one good).2)
-          ∙ ap (λ (x : Accounted). row_after x i.isle island) same ∙ sym i.island-after,
+      h.path_after ∙ row-either a tests _ h.way i.way path h.answered (λ good. (one good).1)
+          ∙ ap (λ (x : Accounted). row_after x i.way path) same ∙ sym i.path_after,
+      h.island_after ∙ row-either a tests _ h.isle i.isle island h.answered (λ good. (one good).2)
+          ∙ ap (λ (x : Accounted). row_after x i.isle island) same ∙ sym i.island_after,
       worked-unique h.worked i.worked,
     )
 
@@ -173,9 +173,9 @@ account-passes rows heights cell key p i work w path t island k work' v b h len 
     (account-checked rows (length heights) (length work) h.peak (length path) (length island) good)) in
     let ek : h.key ≡ level_of key = sym (ap (value_at 0) same) in
     let ep : h.way ≡ take p t =
-    sym (ap (take p) h.path-after ∙ take_at h.way _ p (sym (ap (value_at 1) same))) in
+    sym (ap (take p) h.path_after ∙ take_at h.way _ p (sym (ap (value_at 1) same))) in
     let ei : h.isle ≡ take i k =
-    sym (ap (take i) h.island-after ∙ take_at h.isle _ i (sym (ap (value_at 2) same))) in
+    sym (ap (take i) h.island_after ∙ take_at h.isle _ i (sym (ap (value_at 2) same))) in
     let mine : Account (touch_of (plane_of rows)) (levels heights) cell (level_of key) (take p t) (take i k) =
     subst (λ (l : List ℕ). Account (touch_of (plane_of rows)) (levels heights) cell (level_of key) (take p t) l) ei
     (subst (λ (l : List ℕ). Account (touch_of (plane_of rows)) (levels heights) cell (level_of key) l h.isle) ep

@@ -41,7 +41,7 @@ use Rattle.account.proofs.Answers.{peak-here, peak-told, check-early, check-no-p
 pub grid-auditing : {rows cells work : ℕ} → GoodGrid rows cells work → {s t : List ℕ} {heights : List ℤ} {r : ℕ}
     → length s ≡ work → Loaded s t heights cells → r ≡ rows → Auditing t cells r
 grid-auditing g e h q =
-    let (area, some, few) = grid-loaded g e h q in record { area = area; rows-some = some; rows_few = few }
+    let (area, some, few) = grid-loaded g e h q in record { area = area; rows_some = some; rows_few = few }
 
 pub check-refused : (rows : ℕ) (heights : List ℤ) (cell : ℕ) (key : ℤ) (path island work : List ℕ) {left : List ℕ}
     {r : Refusal} → first_of (grid_tests rows (length heights) (length work)) ≡ Bad r → left ≡ work
@@ -83,7 +83,8 @@ module _ {rows : ℕ} {heights : List ℤ} {cell : ℕ} {key : ℤ} {path island
   stays : Worked (grid_tests rows (length heights) (length work)) (length heights) work left
   stays = worked-late g.good h.len h.beyond
 
-  finds-as : {f' : Finding} → f ≡ f' → Finds (touch_of (plane_of rows)) (levels heights) cell (level_of key) path island f'
+  finds-as : {f' : Finding} → f ≡ f' → Finds (touch_of (plane_of rows)) (levels heights) cell (level_of key) path island
+      f'
   finds-as e = subst (Finds (touch_of (plane_of rows)) (levels heights) cell (level_of key) path island) e h.finds
 
   pub check-found-none : f ≡ Find.NoPeak → Checks rows heights cell key path island work left (Refused NoPeak)

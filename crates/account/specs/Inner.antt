@@ -15,14 +15,14 @@ use Rattle.account.specs.Promises.{accounted_told, key_fits, row_after}
 -- k is the key height of the peak at p, or 0 where it has none
 pub record Drawable (s : List ℕ) (n rows p k : ℕ) (path island : List ℕ) : Type 0 where
   pub area : Area s n
-  pub rows-some : 0 < rows
+  pub rows_some : 0 < rows
   pub rows_few : rows ≤ 1024
   pub above : k < cut n (level_in s) p
   pub peak : Peak (touch_of (plane_of rows)) (cut n (level_in s)) p
   pub none : k ≡ 0 → NoKey (touch_of (plane_of rows)) (cut n (level_in s)) p
   pub some : 0 < k → KeyHeight (touch_of (plane_of rows)) (cut n (level_in s)) p k
   pub path_room : n ≤ length path
-  pub island-room : n ≤ length island
+  pub island_room : n ≤ length island
 
 pub record Drew (rows : ℕ) (s t : List ℕ) (n p : ℕ) (path path' island island' : List ℕ) (answer : Accounted)
     : Type 0 where
@@ -32,7 +32,7 @@ pub record Drew (rows : ℕ) (s t : List ℕ) (n p : ℕ) (path path' island isl
   pub right : OwnAccount (touch_of (plane_of rows)) (cut n (level_in s)) p key way isle
   pub answered : accounted_told answer ≡ granted (key ∷ length way ∷ length isle ∷ [])
   pub fits : key_fits answer
-  pub path-after : path' ≡ row_after answer way path
-  pub island-after : island' ≡ row_after answer isle island
+  pub path_after : path' ≡ row_after answer way path
+  pub island_after : island' ≡ row_after answer isle island
   pub beyond : (i : ℕ) → 16 * n ≤ i → get_or t i 0 ≡ get_or s i 0
   pub len : length t ≡ length s

@@ -72,8 +72,8 @@ pub record Accounts (rows : ℕ) (heights : List ℤ) (cell : ℕ) (work work' p
       ≡ told_by (account_tests rows (length heights) (length work) peak (length path) (length island))
       (granted (key ∷ length way ∷ length isle ∷ []))
   pub fits : key_fits answer
-  pub path-after : path' ≡ row_after answer way path
-  pub island-after : island' ≡ row_after answer isle island
+  pub path_after : path' ≡ row_after answer way path
+  pub island_after : island' ≡ row_after answer isle island
   pub worked : Worked (grid_tests rows (length heights) (length work)) (length heights) work work'
 
 -- "A small check accepts any such account from any source, and no other". Heights, path and island are lent to be read.

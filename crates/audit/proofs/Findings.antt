@@ -37,7 +37,7 @@ auditing-behind h b =
     let r = h.area.room in
     record {
       area = record { few = h.area.few; room = omega arith };
-      rows-some = h.rows-some;
+      rows_some = h.rows_some;
       rows_few = h.rows_few;
     }
 

@@ -41,7 +41,8 @@ module _ {touch : ℕ → ℕ → Type 0} {level : ℕ → ℕ} {p k : ℕ} {pat
       → Outranks touch level p (get_or path (length path - 1) 0) → LeadsOut touch level p k path
   leads-of l e h o =
       let last = get_or path (length path - 1) 0 in
-      let (w, r) = way-of-row path l (λ i m. (h i m).0) (λ i m. simp unary_clauses at ((h (suc i) m).1 (omega arith))) in
+      let (w, r) = way-of-row path l (λ i m. (h i m).0) (λ i m. simp unary_clauses at ((h (suc i) m).1 (omega arith)))
+      in
       subst (λ (a : ℕ). LeadsOut touch level a k path) e
       (record {
         ground = last;

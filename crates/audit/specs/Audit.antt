@@ -15,7 +15,7 @@ use Rattle.audit.specs.declared.Finding.TheVariants as Find
 
 pub record Auditing (s : List ℕ) (n rows : ℕ) : Type 0 where
   pub area : Area s n
-  pub rows-some : 0 < rows
+  pub rows_some : 0 < rows
   pub rows_few : rows ≤ 1024
 
 pub record Behind (s t : List ℕ) (n : ℕ) : Type 0 where

@@ -52,6 +52,7 @@ module _ (touch : ℕ → ℕ → Type 0) where
     pub behind : Behind s t n
 
   pub record Rowed (s t : List ℕ) (n p k : ℕ) (path island : List ℕ) (r : Bool) : Type 0 where
-    pub told : Decides ((island ≡ row_below (reached_in s n) n) × ((0 < k → LeadsOut touch (cut n (level_in s)) p k path)
+    pub told : Decides ((island ≡ row_below (reached_in s n) n)
+        × ((0 < k → LeadsOut touch (cut n (level_in s)) p k path)
         × (k ≡ 0 → path ≡ []))) r
     pub behind : Behind s t n

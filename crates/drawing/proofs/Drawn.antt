@@ -26,7 +26,7 @@ module _ {s : List ℕ} {n rows p k : ℕ} {row : List ℕ} (d : Drawing s n row
       let a = d.above in
       record {
         area = d.area;
-        rows-some = d.rows-some;
+        rows_some = d.rows_some;
         rows_few = d.rows_few;
         cell = d.cell;
         land = l;

@@ -13,7 +13,7 @@ use Rattle.area.specs.Area.{Area, level_in}
 
 pub record Drawing (s : List ℕ) (n rows p k : ℕ) (row : List ℕ) : Type 0 where
   pub area : Area s n
-  pub rows-some : 0 < rows
+  pub rows_some : 0 < rows
   pub rows_few : rows ≤ 1024
   pub cell : p < n
   pub above : k < level_in s p

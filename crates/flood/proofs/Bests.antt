@@ -55,28 +55,29 @@ best-step {s} {n} {i} {top} {r} h p = subst (λ (m : ℕ). BestPlace s n m r) (s
     }
 
 -- what the levels k and l of the two cells tell
-module _ (s : List ℕ) {n i j k l : ℕ} (ek : k ≡ level_in s (order_in s n i)) (el : l ≡ level_in s (order_in s n j)) where
-  pub prefer-higher : k < l → Preferred s n i j j
-  prefer-higher h = moves refl (above (omega arith))
+module _ (s : List ℕ) {n i j k l : ℕ} (ek : k ≡ level_in s (order_in s n i)) (el : l ≡ level_in s (order_in s n j))
+  where
+    pub prefer-higher : k < l → Preferred s n i j j
+    prefer-higher h = moves refl (above (omega arith))
 
-  pub prefer-first : l < k → Preferred s n i j i
-  prefer-first h = stays refl below
-    where
-      below : Better (level_in s) (order_in s n j) (order_in s n i) → ⊥
-      below (above m) = omega arith
-      below (before e m) = omega arith
-
-  -- and where they are equal the cells a and b
-  module _ {a b : ℕ} (ea : a ≡ order_in s n i) (eb : b ≡ order_in s n j) (low : l ≤ k) (high : k ≤ l) where
-    pub prefer-earlier : b < a → Preferred s n i j j
-    prefer-earlier h = moves refl (before (omega arith) (omega arith))
-
-    pub prefer-none : a ≤ b → Preferred s n i j i
-    prefer-none h = stays refl below
+    pub prefer-first : l < k → Preferred s n i j i
+    prefer-first h = stays refl below
       where
         below : Better (level_in s) (order_in s n j) (order_in s n i) → ⊥
         below (above m) = omega arith
         below (before e m) = omega arith
+
+    -- and where they are equal the cells a and b
+    module _ {a b : ℕ} (ea : a ≡ order_in s n i) (eb : b ≡ order_in s n j) (low : l ≤ k) (high : k ≤ l) where
+      pub prefer-earlier : b < a → Preferred s n i j j
+      prefer-earlier h = moves refl (before (omega arith) (omega arith))
+
+      pub prefer-none : a ≤ b → Preferred s n i j i
+      prefer-none h = stays refl below
+        where
+          below : Better (level_in s) (order_in s n j) (order_in s n i) → ⊥
+          below (above m) = omega arith
+          below (before e m) = omega arith
 
 -- ---- the best cell in reading order
 

@@ -3,7 +3,7 @@
 --                                              in the queue of the cell that it was reached from
 --     Trail queue from j l                     the cells from the start to the one at the place j, as they were reached
 --     Flooding, Flooded                        before and after a flood in the work area
---     reached_in t n c                          the flood has reached the cell c, by a test
+--     reached_in t n c                         the flood has reached the cell c, by a test
 --     Queue s n count                          so many cells stand in the order quarter
 --     BestPlace s n count r                    no cell of the queue is better than that at the place r
 --     BestCell s n c r                         no reached cell below c is better than the reached cell r
@@ -34,7 +34,7 @@ pub data Trail (queue from : ℕ → ℕ) : ℕ → List ℕ → Type 0 where
 -- A blank cell has level 0, and is never reached.
 pub record Flooding (s : List ℕ) (n rows start low : ℕ) : Type 0 where
   pub area : Area s n
-  pub rows-some : 0 < rows
+  pub rows_some : 0 < rows
   pub rows_few : rows ≤ 1024
   pub cell : start < n
   pub land : 0 < low

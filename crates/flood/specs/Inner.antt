@@ -1,7 +1,7 @@
 -- The steps of a flood: inner contracts. A cell is open while the parents' quarter holds n for it, and reached where it
 -- holds less.
 --     Sieved s t n low c       the first c cells are open where they are at or above `low`, and else shut
---     gate_in s n y             what the parents' quarter holds of y, and more than n where there is no such cell
+--     gate_in s n y            what the parents' quarter holds of y, and more than n where there is no such cell
 --     GateAsking               what that asks, of a place around the cell x
 --     Reached                  what putting a cell into the queue does
 --     Spreading                the cells around the first `head` of `tail` cells in the queue are reached, and of those
@@ -62,7 +62,7 @@ pub record Onward (s t : List ℕ) (n tail : ℕ) : Type 0 where
 module _ (touch : ℕ → ℕ → Type 0) where
   pub record Looking (s : List ℕ) (n rows head tail : ℕ) : Type 0 where
     pub area : Area s n
-    pub rows-some : 0 < rows
+    pub rows_some : 0 < rows
     pub rows_few : rows ≤ 1024
     pub more : head < tail
     pub spreading : Spreading touch n (order_in s n) (parent_in s n) head tail (λ (c : ℕ). ⊥)

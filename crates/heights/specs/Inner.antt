@@ -23,6 +23,6 @@ pub record Loading (s : List ℕ) (heights : List ℤ) (n : ℕ) : Type 0 where
   pub all : n ≤ length heights
 
 pub record Loaded (s t : List ℕ) (heights : List ℤ) (n : ℕ) : Type 0 where
-  pub levels-in : (c : ℕ) → c < n → level_in t c ≡ levels heights c
+  pub levels_in : (c : ℕ) → c < n → level_in t c ≡ levels heights c
   pub beyond : (i : ℕ) → 16 * n ≤ i → get_or t i 0 ≡ get_or s i 0
   pub len : length t ≡ length s

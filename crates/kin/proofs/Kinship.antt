@@ -103,7 +103,8 @@ module _ {touch : ℕ → ℕ → Type 0} {touch? : ℕ → ℕ → Bool} {s t u
       (λ (a, b). (
         omega arith,
         split (test (eqb (parent_in s n c) c)) (eq-decides (parent_in s n c) c).holds
-            (λ k. let j = h.lesser c l (omega arith) ((eq-decides (parent_in s n c) c).fails k) in absurd (omega arith)),
+            (λ k. let j = h.lesser c l (omega arith) ((eq-decides (parent_in s n c) c).fails k) in absurd
+            (omega arith)),
       ))
       (λ (a, b). (omega arith, f ∙ h.tops c (omega arith) l a b))
       (and-decides (lt-decides 0 (level_in u c)) (eq-decides (parent_in u n c) 8388608))
@@ -158,11 +159,11 @@ module _ {touch : ℕ → ℕ → Type 0} {touch? : ℕ → ℕ → Bool} {s t u
     family = record {
       tops = tops_in u n n;
       children = children;
-      tops-right = tops-order;
-      children-right = children-all;
+      tops_right = tops-order;
+      children_right = children-all;
     };
     tops = refl;
-    top-peak = λ c l e.
+    top_peak = λ c l e.
         let (a, b) = (top-told c l).holds e in passes (peak-decides s n T c) (l, listed-root s n T c a b);
     children = λ q e. rw e;
     front = λ j l. g.other j (λ a b. omega arith) ∙ h.kept.front j l;

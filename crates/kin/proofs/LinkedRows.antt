@@ -58,7 +58,7 @@ module _ {touch : ℕ → ℕ → Type 0} {touch? : ℕ → ℕ → Bool} {s t :
       split (test (listed s n T c)) (λ f. true-not-false e (h.plain c l f)) (λ f. f)
 
   pass-upper : {c : ℕ} → PassHere s t n c → pass_of t n c ≡ pass_of s n c
-  pass-upper {c} p = ap cell_in (h.passes-left c p.0.0 (λ g. true-not-false g (pass-slope p)))
+  pass-upper {c} p = ap cell_in (h.passes_left c p.0.0 (λ g. true-not-false g (pass-slope p)))
 
   pub hung-pass : {x d : ℕ} → Hangs s n T x d → PassHere s t n x
   hung-pass {x} {d} k =

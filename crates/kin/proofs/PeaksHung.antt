@@ -40,9 +40,9 @@ hung-start {s} {n} {T} w = record {
   tops = λ q k l m e. absurd (omega arith);
   lesser = λ d l m e. let i = w.inside d l m in let a = w.area.few in omega arith;
   ends = λ q k l e. absurd (omega arith);
-  passes-left = λ d l e. refl;
-  parents-left = λ q l e. refl;
-  no-root = λ d l m e f. true-not-false (listed-root s n T d m f) e;
+  passes_left = λ d l e. refl;
+  parents_left = λ q l e. refl;
+  no_root = λ d l m e f. true-not-false (listed-root s n T d m f) e;
   kept = record { front = λ j l. refl; back = λ j l. refl; len = refl };
 }
   where
@@ -59,9 +59,9 @@ hung-blank s n T none = record {
   tops = λ q k l m e. absurd (none q l m);
   lesser = λ d l m e. absurd (none d l m);
   ends = λ q k l e. absurd (none q l (listed-land s n T q e));
-  passes-left = λ d l e. refl;
-  parents-left = λ q l e. refl;
-  no-root = λ d l m e f. none d l m;
+  passes_left = λ d l e. refl;
+  parents_left = λ q l e. refl;
+  no_root = λ d l m e f. none d l m;
   kept = record { front = λ j l. refl; back = λ j l. refl; len = refl };
 }
 
@@ -73,7 +73,7 @@ module _ {s t : List ℕ} {n T c : ℕ} (w : Hanging s n T) (h : Hung s t n T (s
   level-same d l = h.kept.front d (omega arith)
 
   pass_same : pass_of t n c ≡ pass_of s n c
-  pass_same = ap cell_in (h.passes-left c here (λ e. omega arith))
+  pass_same = ap cell_in (h.passes_left c here (λ e. omega arith))
 
   pub hung-choosing : Choosing t n c
   hung-choosing = record {
@@ -90,8 +90,8 @@ module _ {s t : List ℕ} {n T c : ℕ} (w : Hanging s n T) (h : Hung s t n T (s
       root : 0 < level_in s c → eqb (parent_in t n c) c ≡ eqb (parent_in s n c) c
       root l =
           split (test (listed s n T c))
-          (λ e. ap (λ (p : ℕ). eqb p c) (h.parents-left c (omega arith) e))
-          (λ e. ne_eqb (parent_in t n c) c (h.no-root c here l e)
+          (λ e. ap (λ (p : ℕ). eqb p c) (h.parents_left c (omega arith) e))
+          (λ e. ne_eqb (parent_in t n c) c (h.no_root c here l e)
           ∙ sym (ne_eqb (parent_in s n c) c (λ f. true-not-false (listed-root s n T c l f) e)))
 
   -- ---- a cell that is not listed
@@ -109,15 +109,15 @@ module _ {s t : List ℕ} {n T c : ℕ} (w : Hanging s n T) (h : Hung s t n T (s
         (λ i. h.tops q i l m f);
     lesser = h.lesser;
     ends = λ q k l f. split (from_suc c q k) (λ g. absurd (test-apart (listed s n T) f e g)) (λ i. h.ends q i l f);
-    passes-left = λ d l f. h.passes-left d l (λ g. let i = f g in omega arith);
-    parents-left = λ q l f. h.parents-left q (omega arith) f;
-    no-root = h.no-root;
+    passes_left = λ d l f. h.passes_left d l (λ g. let i = f g in omega arith);
+    parents_left = λ q l f. h.parents_left q (omega arith) f;
+    no_root = h.no_root;
     kept = h.kept;
   }
 
   module _ (own : listed s n T c ≡ true) where
     parent-own : parent_in t n c ≡ parent_in s n c
-    parent-own = h.parents-left c (omega arith) own
+    parent-own = h.parents_left c (omega arith) own
 
     not_own : (x : ℕ) → listed s n T x ≡ false → x ≡ c → ⊥
     not_own x e q = test-apart (listed s n T) own e (sym q)
@@ -157,11 +157,11 @@ module _ {s t : List ℕ} {n T c : ℕ} (w : Hanging s n T) (h : Hung s t n T (s
             omega arith;
         ends = λ q k l f. split (from_suc c q k) (λ i. ap (pass_in u n) i ∙ g.ended)
             (λ i. pass-else q l (λ j. omega arith) ∙ h.ends q i l f);
-        passes-left = λ d l f.
+        passes_left = λ d l f.
             pass-else d l (λ q. let i = f (subst (λ (z : ℕ). listed s n T z ≡ true) (sym q) own) in omega arith)
-            ∙ h.passes-left d l (λ k. let i = f k in omega arith);
-        parents-left = λ q l f. parent-else q (omega arith) (λ j. omega arith) ∙ h.parents-left q (omega arith) f;
-        no-root = λ d l m f k. h.no-root d l m f (sym (parent-else d l (not_own d f)) ∙ k);
+            ∙ h.passes_left d l (λ k. let i = f k in omega arith);
+        parents_left = λ q l f. parent-else q (omega arith) (λ j. omega arith) ∙ h.parents_left q (omega arith) f;
+        no_root = λ d l m f k. h.no_root d l m f (sym (parent-else d l (not_own d f)) ∙ k);
         kept = record {
           front = λ j l. g.other j (λ e. omega arith) (λ e. omega arith) ∙ h.kept.front j l;
           back = λ j l. g.other j (λ e. omega arith) (λ e. omega arith) ∙ h.kept.back j l;
@@ -225,7 +225,8 @@ module _ {s t : List ℕ} {n T c : ℕ} (w : Hanging s n T) (h : Hung s t n T (s
         below = omega arith;
         row = λ y l m f. elim (ℕ_discrete y x) [
           | yes q ↦ subst
-              (λ (z : ℕ). Row (parent_in u n) n (first_in (parent_in u n z)) ◌<◌ (λ d. Hangs s n T z d × (c ≤ d)) (n - c))
+              (λ (z : ℕ). Row (parent_in u n) n (first_in (parent_in u n z)) ◌<◌ (λ d. Hangs s n T z d × (c ≤ d))
+              (n - c))
               (sym q) (row-own (w.slopes x c hangs).0)
           | no q ↦ row-else y l m f q
         ];
@@ -253,16 +254,16 @@ module _ {s t : List ℕ} {n T c : ℕ} (w : Hanging s n T) (h : Hung s t n T (s
         ];
         ends = λ q k l f. split (from_suc c q k) (λ i. ap (pass_in u n) i ∙ g.ended)
             (λ i. number-else q l (λ j. omega arith) ∙ h.ends q i l f);
-        passes-left = λ d l f.
+        passes_left = λ d l f.
             number-else d l (λ q. let i = f (subst (λ (z : ℕ). listed s n T z ≡ true) (sym q) own) in omega arith)
-            ∙ h.passes-left d l (λ k. let i = f k in omega arith);
-        parents-left = λ q l f.
-            link-else q (omega arith) (λ j. omega arith) (not-pass q f) ∙ h.parents-left q (omega arith) f;
-        no-root = λ d l m f k. elim (ℕ_discrete d x) [
+            ∙ h.passes_left d l (λ k. let i = f k in omega arith);
+        parents_left = λ q l f.
+            link-else q (omega arith) (λ j. omega arith) (not-pass q f) ∙ h.parents_left q (omega arith) f;
+        no_root = λ d l m f k. elim (ℕ_discrete d x) [
           | yes q ↦ let e : parent_in u n d ≡ c + 1048576 = ap (parent_in u n) q ∙ g.first in
               let a = w.area.few in
               omega arith
-          | no q ↦ h.no-root d l m f (sym (link-else d l (not_own d f) q) ∙ k)
+          | no q ↦ h.no_root d l m f (sym (link-else d l (not_own d f) q) ∙ k)
         ];
         kept = record {
           front = λ j l. g.other j (λ e. omega arith) (λ e. omega arith) (λ e. omega arith) ∙ h.kept.front j l;

@@ -4,7 +4,7 @@
 --     Row                        a chain of links leads through just the cells of which P says yes, in the order R
 --     listed                     the cell is that of a listed peak
 --     Hangs s n T x d            d is the cell of a listed peak, and x its pass
---     first_in w                  the first peak of a pass that has the number w in the parents' quarter
+--     first_in w                 the first peak of a pass that has the number w in the parents' quarter
 --     Hanging, Hung              what hanging all peaks asks, and what it leaves once it is at the cell c
 --     Hangable                   what hanging one peak asks
 --     Entered, Filed, FiledCell  what is done with a top, with another listed peak, and with any cell
@@ -69,9 +69,9 @@ pub record Hung (s t : List ℕ) (n T c : ℕ) : Type 0 where
   pub tops : (q : ℕ) → c ≤ q → q < n → 0 < level_in s q → parent_in s n q ≡ q → parent_in t n q ≡ 8388608
   pub lesser : (d : ℕ) → d < n → 0 < level_in s d → (parent_in s n d ≡ d → ⊥) → parent_in t n d < 8388608
   pub ends : (q : ℕ) → c ≤ q → q < n → listed s n T q ≡ true → pass_in t n q ≡ 4194304
-  pub passes-left : (d : ℕ) → d < n → (listed s n T d ≡ true → d < c) → pass_in t n d ≡ pass_in s n d
-  pub parents-left : (q : ℕ) → q < c → listed s n T q ≡ true → parent_in t n q ≡ parent_in s n q
-  pub no-root : (d : ℕ) → d < n → 0 < level_in s d → listed s n T d ≡ false → parent_in t n d ≡ d → ⊥
+  pub passes_left : (d : ℕ) → d < n → (listed s n T d ≡ true → d < c) → pass_in t n d ≡ pass_in s n d
+  pub parents_left : (q : ℕ) → q < c → listed s n T q ≡ true → parent_in t n q ≡ parent_in s n q
+  pub no_root : (d : ℕ) → d < n → 0 < level_in s d → listed s n T d ≡ false → parent_in t n d ≡ d → ⊥
   pub kept : Kept s t n
 
 -- what hanging one peak asks

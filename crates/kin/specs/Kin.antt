@@ -1,16 +1,17 @@
 -- Peaks under peaks, as links between cells in the work area. When all is linked, the parents' quarter leads from a
 -- pass cell to its first peak and from there to the others, the pass quarter from a peak to the first pass under it and
 -- from there to the others. A link that is no cell ends a chain.
---     Chain next n c l           from the number c on, the links `next` lead through just the cells of l
---     walk next n most c         the cells that they lead through, at most so many
---     passes_in s n q             the passes under the peak q
---     peaks_in s n x              the peaks of the pass x
---     children_in s n q           the entries of the peaks under q, by its passes
---     Threads s n peak pass      the peaks and passes are linked in the work area s
+--     Chain next n c l             from the number c on, the links `next` lead through just the cells of l
+--     walk next n most c           the cells that they lead through, at most so many
+--     passes_in s n q              the passes under the peak q
+--     peaks_in s n x               the peaks of the pass x
+--     children_in s n q            the entries of the peaks under q, by its passes
+--     Threads s n peak pass        the peaks and passes are linked in the work area s
 --     is_top s n c, tops_in s n k  c is the cell of a top; the entries of the tops among the first k cells
---     Kinned                     what linking leaves
+--     Kinned                       what linking leaves
 -- Assumes nothing.
-use Rattle.std.specs.Prelude.{◌≡◌, Bool, true, cond, ◌&&◌, List, [], ◌∷◌, ◌++◌, map, ℕ, zero, suc, ◌*◌, ◌≤◌, ◌<◌, eqb, ltb, length}
+use Rattle.std.specs.Prelude.{◌≡◌, Bool, true, cond, ◌&&◌, List, [], ◌∷◌, ◌++◌, map, ℕ, zero, suc, ◌*◌, ◌≤◌, ◌<◌, eqb}
+use Rattle.std.specs.Prelude.{ltb, length}
 use Rattle.relief.specs.Peaks.{missing, key, Entry}
 use Rattle.relief.specs.Outline.{Family}
 use Rattle.relief.specs.Inner.{cut}
@@ -78,7 +79,7 @@ pub record Kinned (touch : ℕ → ℕ → Type 0) (s t : List ℕ) (n T : ℕ) 
   pub threads : Threads t n peak pass
   pub family : Family touch (cut n (level_in s)) T
   pub tops : family.tops ≡ tops_in t n n
-  pub top-peak : (c : ℕ) → c < n → is_top t n c ≡ true → peak c ≡ true
+  pub top_peak : (c : ℕ) → c < n → is_top t n c ≡ true → peak c ≡ true
   pub children : (q : ℕ) → peak q ≡ true → family.children q ≡ children_in t n q
   pub front : (j : ℕ) → j < 2 * n → word_at t j ≡ word_at s j
   pub back : (j : ℕ) → 4 * n ≤ j → word_at t j ≡ word_at s j

@@ -4,7 +4,8 @@
 --     bits-signed      the bits of the number with the bits w are w
 --     signed-level     a height whose level is w moved by 2^31 is the number with the bits w
 -- Each goes by the sign, by linear arithmetic. Assumes nothing.
-use Rattle.std.proofs.Common.{◌≡◌, ℕ, ◌+◌, ◌-◌, ◌%◌, ◌<◌, ◌≤◌, ℤ, pos, negsuc, sym, ap, ◌∙◌, arith, w32, SFits, le-ltb, lt-ltb}
+use Rattle.std.proofs.Common.{◌≡◌, ℕ, ◌+◌, ◌-◌, ◌%◌, ◌<◌, ◌≤◌, ℤ, pos, negsuc, sym, ap, ◌∙◌, arith, w32, SFits, le-ltb}
+use Rattle.std.proofs.Common.{lt-ltb}
 use native.Mathlib.Decide.{dec_lt}
 use Rattle.relief.specs.Heights.{level_of}
 use Rattle.layout.specs.Layout.{bits_of, signed_of}

@@ -1,12 +1,13 @@
--- Laws of whole files: the numbers of a written file are where a reader looks for them. With `Rows` the only file
--- of this crate that unfolds `header_of`, `fields_of`, `numbers_of`, `file_of` and `peak_from`, but for the proofs of the
--- functions that put and take them.
+-- Laws of whole files: the numbers of a written file are where a reader looks for them. With `Rows` the only file of
+-- this crate that unfolds `header_of`, `fields_of`, `numbers_of`, `file_of` and `peak_from`, but for the proofs of
+-- the functions that put and take them.
 --     numbers-length, numbers-header, numbers-height, numbers-record    the numbers of a file
 --     file-length, file-word           its length, and a number of its bytes
 --     file-rows .. file-total          its header as a reader finds it
 --     back-cells, back-heights, back-records    what a written file holds is what was written
 -- Assumes nothing.
-use Rattle.std.proofs.Common.{◌≡◌, ℕ, ◌+◌, ◌*◌, ◌/◌, ◌<◌, ◌⊎◌, List, ◌++◌, map, length, get_or, ℤ, sym, refl, ap, ◌∙◌, inl, inr, arith, length-append, get_or-append-add, ext_get_or, w32, SFits}
+use Rattle.std.proofs.Common.{◌≡◌, ℕ, ◌+◌, ◌*◌, ◌/◌, ◌<◌, ◌⊎◌, List, ◌++◌, map, length, get_or, ℤ, sym, refl, ap, ◌∙◌}
+use Rattle.std.proofs.Common.{inl, inr, arith, length-append, get_or-append-add, ext_get_or, w32, SFits}
 use native.Mathlib.Nat.{div-add-mod}
 use lib.ListN.{length-map, get_or-append, get_or-map}
 use Rattle.relief.specs.Heights.{BLANK}

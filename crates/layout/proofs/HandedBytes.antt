@@ -6,7 +6,8 @@
 --     flat-handable, flat-bytes     what a flat call leaves is handed out so, and keeps the promise `HandsBytes`
 --     bytes-unique                  which allows one outcome, where just one list is right
 -- Assumes nothing.
-use Rattle.std.proofs.Common.{◌≡◌, ℕ, zero, suc, ◌-◌, ◌*◌, ◌/◌, ◌<◌, ◌≤◌, Bool, List, ◌++◌, map, length, drop, ℤ, pos, negsuc, ◌-ℤ◌, sym, refl, ap, ◌∙◌, ap₂, arith, w64, SFits, to_z, of_z, lt-ltb}
+use Rattle.std.proofs.Common.{◌≡◌, ℕ, zero, suc, ◌-◌, ◌*◌, ◌/◌, ◌<◌, ◌≤◌, Bool, List, ◌++◌, map, length, drop, ℤ, pos}
+use Rattle.std.proofs.Common.{negsuc, ◌-ℤ◌, sym, refl, ap, ◌∙◌, ap₂, arith, w64, SFits, to_z, of_z, lt-ltb}
 use mathlib.Core.List.{flat_map}
 use mir.ValLaws.{to_z_pos, to_z-of_z}
 use Rattle.relief.specs.Peaks.{Entry}

@@ -2,7 +2,8 @@
 --     Lays s at row n t i    the invariant of a loop that lays them: t is s with the first i
 --     lays-start, lays-length, lays_step, lays-done, lays-front    its laws
 -- A turn lays 16 bytes behind those laid before it (`over-over`). Assumes nothing.
-use Rattle.std.proofs.Common.{◌≡◌, ℕ, suc, ◌+◌, ◌*◌, ◌<◌, ◌≤◌, List, [], ◌∷◌, ◌++◌, length, drop, sym, ap, ◌∙◌, append-nil, add-one, arith}
+use Rattle.std.proofs.Common.{◌≡◌, ℕ, suc, ◌+◌, ◌*◌, ◌<◌, ◌≤◌, List, [], ◌∷◌, ◌++◌, length, drop, sym, ap, ◌∙◌}
+use Rattle.std.proofs.Common.{append-nil, add-one, arith}
 use mathlib.Core.List.{flat_map}
 use native.Mathlib.Decide.{dec_lt}
 use Rattle.record.specs.declared.Peak.{Peak}

@@ -4,7 +4,8 @@
 --     over_word                            a number stored at a place of four bytes lays its bytes over
 --     over-next                            numbers laid one after the other are a row of numbers
 -- A stored number agrees with its bytes laid over at each byte, by the digits. Assumes nothing.
-use Rattle.std.proofs.Common.{◌≡◌, ℕ, zero, suc, ◌+◌, ◌-◌, ◌*◌, ◌/◌, ◌%◌, ◌<◌, ◌≤◌, List, [], ◌∷◌, ◌++◌, length, get_or, sym, ap, ◌∙◌, append-nil, add-zero, arith, ext_get_or}
+use Rattle.std.proofs.Common.{◌≡◌, ℕ, zero, suc, ◌+◌, ◌-◌, ◌*◌, ◌/◌, ◌%◌, ◌<◌, ◌≤◌, List, [], ◌∷◌, ◌++◌, length, get_or}
+use Rattle.std.proofs.Common.{sym, ap, ◌∙◌, append-nil, add-zero, arith, ext_get_or}
 use mathlib.Core.List.{flat_map}
 use native.Mathlib.Decide.{dec_lt, ℕ_discrete}
 use Rattle.words.specs.Words.{word_at, Stored, over}
@@ -35,7 +36,8 @@ module _ (s t : List ℕ) (bytes : (k : ℕ) → get_or s k 0 < 256) (bytes' : (
   unfolding word_of
   word-length = fits
 
-  over-word-at : (j r : ℕ) → r < 4 → Dec (j ≡ i) → get_or t (4 * j + r) 0 ≡ get_or (over s (4 * i) (word_of v)) (4 * j + r) 0
+  over-word-at : (j r : ℕ) → r < 4 → Dec (j ≡ i) → get_or t (4 * j + r) 0 ≡ get_or (over s (4 * i) (word_of v))
+      (4 * j + r) 0
   unfolding word_of
   over-word-at j r h (yes e) =
       let word : word_at t j ≡ v = ap (word_at t) e ∙ stored.here in

@@ -6,7 +6,8 @@
 --     heights-grow, heights-length, heights-at heights read from bytes
 --     peaks-grow, peaks-length, peaks-at       records read from bytes
 -- Assumes nothing.
-use Rattle.std.proofs.Common.{◌≡◌, ℕ, zero, suc, ◌+◌, ◌*◌, ◌<◌, List, [], ◌∷◌, ◌++◌, length, get_or, sym, refl, ap, ◌∙◌, append_assoc, arith, length-append, get_or-append-add}
+use Rattle.std.proofs.Common.{◌≡◌, ℕ, zero, suc, ◌+◌, ◌*◌, ◌<◌, List, [], ◌∷◌, ◌++◌, length, get_or, sym, refl, ap, ◌∙◌}
+use Rattle.std.proofs.Common.{append_assoc, arith, length-append, get_or-append-add}
 use mathlib.Core.List.{flat_map}
 use lib.ListN.{get_or-append}
 use Rattle.relief.specs.Heights.{BLANK}
@@ -59,7 +60,8 @@ pub bytes-append : (xs ys : List ℕ) → bytes_of (xs ++ ys) ≡ bytes_of xs ++
 bytes-append = four-append word_of word-four
 
 pub bytes-at :
-    (vs : List ℕ) (i r : ℕ) → i < length vs → r < 4 → get_or (bytes_of vs) (4 * i + r) 0 ≡ get_or (word_of (get_or vs i 0)) r 0
+    (vs : List ℕ) (i r : ℕ) → i < length vs → r < 4 → get_or (bytes_of vs) (4 * i + r) 0 ≡ get_or
+    (word_of (get_or vs i 0)) r 0
 bytes-at vs i r = four-at word_of word-four vs 0 i r
 
 pub bytes_word : (vs : List ℕ) (i : ℕ) → i < length vs → word_at (bytes_of vs) i ≡ get_or vs i 0
@@ -89,7 +91,8 @@ heights-grow s at n = record { start = refl; next = λ i l. refl }
 pub heights-length : (s : List ℕ) (at n : ℕ) → length (heights_from s at n) ≡ n
 heights-length s at n = grows-length (heights-grow s at n) n (omega arith)
 
-pub heights-at : (s : List ℕ) (at n i : ℕ) → i < n → get_or (heights_from s at n) i BLANK ≡ signed_of (word_at s (at + i))
+pub heights-at : (s : List ℕ) (at n i : ℕ) → i < n → get_or (heights_from s at n) i BLANK ≡ signed_of
+    (word_at s (at + i))
 heights-at s at n i h = grows_at (heights-grow s at n) BLANK n i (omega arith) h
 
 pub peaks-grow : (s : List ℕ) (at n : ℕ) → Grows (peaks_from s at) (λ i. peak_from s (at + 4 * i)) n

@@ -11,7 +11,8 @@
 --     peak_from s at, peaks_from s at n           the record whose first number is the at-th of s, n records from it on
 --     record_from f cells i, records_from f cells n    the i-th record of a file of so many cells, the first n of them
 -- A file read is a list of bytes, and word_at f i its i-th number. Assumes nothing.
-use Rattle.std.specs.Prelude.{ℕ, zero, suc, ◌+◌, ◌-◌, ◌*◌, ◌/◌, ◌%◌, true, false, List, [], ◌∷◌, ◌++◌, map, length, ℤ, pos, negsuc, nat_lt}
+use Rattle.std.specs.Prelude.{ℕ, zero, suc, ◌+◌, ◌-◌, ◌*◌, ◌/◌, ◌%◌, true, false, List, [], ◌∷◌, ◌++◌, map, length, ℤ}
+use Rattle.std.specs.Prelude.{pos, negsuc, nat_lt}
 use mathlib.Core.List.{flat_map}
 use Rattle.record.specs.declared.Peak.{Peak}
 use Rattle.words.specs.Words.{word_at}

@@ -1,17 +1,18 @@
 -- The answers of writing and reading: sections "Run file" and "What comes back" of document 01.
---     written_told a, read_told a               what an answer tells the caller
---     write_tests rows cells n unsound room    the order of refusals of `write`, for so many cells, records and bytes of
+--     written_told a, read_told a             what an answer tells the caller
+--     write_tests rows cells n unsound room   the order of refusals of `write`, for so many cells, records and bytes of
 --                                             room, at the index of the first unsound record
 --     miscounted f cells n                    the header of f is not that of so many cells and records
---     read_tests f heights table unsound       the order of refusals of `read`, for so many lent heights and table
+--     read_tests f heights table unsound      the order of refusals of `read`, for so many lent heights and table
 --                                             entries
---     room_after, lent_after a new old          what is lent at an answer: new on success, old at a refusal
+--     room_after, lent_after a new old        what is lent at an answer: new on success, old at a refusal
 --     ReadAnswers f heights table a           a is the answer of `read`
---     signed_told told                         what a call tells, as one signed number
---     bytes_after a records table              the bytes of a table after an answer that hands out these records
+--     signed_told told                        what a call tells, as one signed number
+--     bytes_after a records table             the bytes of a table after an answer that hands out these records
 --     HandsBytes                              `Hands` of `table`, with the table as bytes and the answer as that number
 -- Assumes nothing.
-use Rattle.std.specs.Prelude.{◌≡◌, ℕ, zero, suc, ◌+◌, ◌*◌, ◌/◌, ◌%◌, Bool, not, ◌||◌, List, [], ◌∷◌, ◌++◌, map, length, drop, ℤ, pos, negsuc, ◌==◌, nat_lt, slice_index}
+use Rattle.std.specs.Prelude.{◌≡◌, ℕ, zero, suc, ◌+◌, ◌*◌, ◌/◌, ◌%◌, Bool, not, ◌||◌, List, [], ◌∷◌, ◌++◌, map, length}
+use Rattle.std.specs.Prelude.{drop, ℤ, pos, negsuc, ◌==◌, nat_lt, slice_index}
 use Rattle.relief.specs.Peaks.{Entry}
 use Rattle.record.specs.declared.Peak.{Peak}
 use Rattle.record.specs.declared.Refusal.{Refusal}

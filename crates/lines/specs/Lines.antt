@@ -1,6 +1,6 @@
 -- What the functions that write the lines of an outline ask and promise. They count bytes or write them, as they are
 -- told; the place that they hand back is the same.
---     front_of depth a b c cell level     what the line of a peak and that of a pass begin with
+--     front_of depth a b c cell level    what the line of a peak and that of a pass begin with
 --     Fits room write at count           so many bytes fit from the place at on
 --     Printed s t write at r bytes       t is s with these bytes from the place at on, or s; r is the place behind them
 -- Assumes nothing.

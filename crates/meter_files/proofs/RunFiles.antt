@@ -62,7 +62,8 @@ module _ (hs : List ℤ) (records : List ℕ) (k : ℕ) where
     row-copyable (written.Refused r) g l = record { room = λ h. absurd (omega arith); long = λ h. absurd (omega arith) }
 
     -- the records copied are those laid
-    copied : (w : Written) → over zs (4 * (6 + length hs)) (bytes_of (all_fields_of (peaks_from records 0 (put_of w n))))
+    copied : (w : Written) → over zs (4 * (6 + length hs))
+        (bytes_of (all_fields_of (peaks_from records 0 (put_of w n))))
         ≡ laid zs (length hs) (lent_row records) (put_of w (length (lent_row records)))
     unfolding laid peaks_from
     copied w = rw (place (length hs)) (go w)

@@ -2,7 +2,7 @@
 -- file's layout and the answer as one signed number.
 --     lent_row records            the records lent as bytes: as many as fit whole
 --     count_told a                what `meter_read` tells: the record count alone
---     MeterWrites, MeterReads    the promises of the two calls
+--     MeterWrites, MeterReads     the promises of the two calls
 -- Assumes nothing.
 use Rattle.std.specs.Prelude.{List, [], ◌∷◌, ◌++◌, ◌≡◌, ℕ, ◌/◌, ℤ, length, drop}
 use Rattle.record.specs.declared.Peak.{Peak}

@@ -11,7 +11,7 @@ use Rattle.meter_runs.specs.Claims.{MeterColumnUnique, MeterOutlineUnique, Claim
 
 meter-column-unique : MeterColumnUnique
 meter-column-unique run column grid g h work w v table t u a b p q =
-    (bytes-unique order-unique p.hands q.hands, p.grid-after ∙ sym q.grid-after)
+    (bytes-unique order-unique p.hands q.hands, p.grid_after ∙ sym q.grid_after)
 
 meter-outline-unique : MeterOutlineUnique
 meter-outline-unique run grid levels work w v text t u a b p q =

@@ -16,7 +16,8 @@ MeterColumnUnique =
     (run : Run) (column grid g h : List ℤ) (work w v table t u : List ℕ) (a b : ℤ)
     → MeterColumns run column grid g work w table t a
     → MeterColumns run column grid h work v table u b
-    → ((a ≡ b) × (t ≡ u) × Worked (column_tests run (length column) (length grid) (length work)) (held_of run + run.rows)
+    → ((a ≡ b) × (t ≡ u) × Worked (column_tests run (length column) (length grid) (length work))
+    (held_of run + run.rows)
     w v) × (g ≡ h)
 
 abbrev pub MeterOutlineUnique : Type 0

@@ -18,7 +18,7 @@ pub record MeterColumns (run : Run) (column grid grid' : List ℤ) (work work' t
     : Type 0 where
   pub hands : HandsBytes (column_tests run (length column) (length grid) (length work)) (held_of run + run.rows)
       (ColumnBatch run column grid) work work' table table' answer
-  pub grid-after : grid'
+  pub grid_after : grid'
       ≡ column_grid (first_of (column_tests run (length column) (length grid) (length work))) run column grid
 
 -- ---- the outline

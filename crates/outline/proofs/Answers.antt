@@ -45,7 +45,8 @@ use Rattle.outline.proofs.Length.{kinned-few, kinned-short}
 
 module _ {run : Run} {grid : List ℤ} {levels : ℕ} {work left : List ℕ} {land : ℕ}
     (g : GoodOutline run (length grid) levels (length work)) (p : Prepared run grid work left land) where
-  terrain : Terrain (touch_of (shape_of run)) (touch? (shape_of run)) (cut (held_of run) (level_in p.from)) (held_of run)
+  terrain : Terrain (touch_of (shape_of run)) (touch? (shape_of run)) (cut (held_of run) (level_in p.from))
+      (held_of run)
   terrain = touch-terrain (shape_of run) (cut-behind (held_of run) (level_in p.from))
 
   pub prepared-printable : {n : ℕ} → n ≡ held_of run → Printable left n levels
@@ -53,7 +54,7 @@ module _ {run : Run} {grid : List ℤ} {levels : ℕ} {work left : List ℕ} {la
     area = p.kinned.threads.area;
     linked = λ c l t.
         threads-linked p.kinned.threads (kinned-few p.kinned terrain) (levels - 1) c
-        (p.kinned.top-peak c l t);
+        (p.kinned.top_peak c l t);
     short = kinned-short p.kinned terrain p.small levels g.deep;
     one = g.one;
     deep = g.deep;
@@ -168,7 +169,7 @@ module _ (run : Run) (grid : List ℤ) (levels : ℕ) (work room : List ℕ) whe
       let text = tops_print left (held_of run) (levels - 1) (held_of run) in
       record {
         text = text;
-        right = subst (λ (L : ℕ → ℕ). Outline (touch_of (shape_of run)) L run.threshold levels text) p.levels-in
+        right = subst (λ (L : ℕ → ℕ). Outline (touch_of (shape_of run)) L run.threshold levels text) p.levels_in
             (kinned-outline p.kinned levels);
         answered =
             ap outlined_told h'.answered ∙ told (length text) (ltb (length room) (length text))

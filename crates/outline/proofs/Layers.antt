@@ -79,10 +79,10 @@ module _ {touch : ℕ → ℕ → Type 0} {touch? : ℕ → ℕ → Bool} {level
     -- ---- children
 
     pub children-entry : (q : ℕ) (e : Entry) → Member e (family.children q) → PeakEntry touch level e
-    children-entry q e m = ((family.children-right q).sound e m).listed.right
+    children-entry q e m = ((family.children_right q).sound e m).listed.right
 
     children-apart : (q : ℕ) → Apart (family.children q)
-    children-apart q = falling-apart (family.children q) (children-entry q) (family.children-right q).falling
+    children-apart q = falling-apart (family.children q) (children-entry q) (family.children_right q).falling
 
     pub children-few : (q : ℕ) → length (family.children q) ≤ n
     children-few q = entries-few (family.children q) (children-apart q) (children-entry q)
@@ -93,9 +93,9 @@ module _ {touch : ℕ → ℕ → Type 0} {touch? : ℕ → ℕ → Bool} {level
         apart-append (family.children x.cell) (offspring family.children l) (children-apart x.cell)
         (offspring-apart l a.1) (λ d e h m q.
         let r = offspring-member family.children l e m in
-        let under : Parent touch level d.cell x.cell = ((family.children-right x.cell).sound d h).under in
+        let under : Parent touch level d.cell x.cell = ((family.children_right x.cell).sound d h).under in
         let other : Parent touch level e.cell r.0.cell =
-        ((family.children-right r.0.cell).sound e r.2).under in
+        ((family.children_right r.0.cell).sound e r.2).under in
         a.0 r.0 r.1
         (parent-unique t under (subst (λ (p : ℕ). Parent touch level p r.0.cell) (sym q) other)))
 
@@ -103,8 +103,8 @@ module _ {touch : ℕ → ℕ → Type 0} {touch? : ℕ → ℕ → Bool} {level
 
     tops-layer : Layer touch level 0 family.tops
     tops-layer = record {
-      apart = rising-apart 0 family.tops family.tops-right.rising;
-      member = λ e m. let top = family.tops-right.sound e m in
+      apart = rising-apart 0 family.tops family.tops_right.rising;
+      member = λ e m. let top = family.tops_right.sound e m in
           record { right = top.listed.right; ancestors = top.keyless };
     }
 
@@ -114,7 +114,7 @@ module _ {touch : ℕ → ℕ → Type 0} {touch? : ℕ → ℕ → Bool} {level
       apart = offspring-apart l h.apart;
       member = λ e m.
           let (p, i, j) = offspring-member family.children l e m in
-          let child = (family.children-right p.cell).sound e j in
+          let child = (family.children_right p.cell).sound e j in
           record { right = child.listed.right; ancestors = (p.cell, child.under, (h.member p i).ancestors) };
     }
 

@@ -6,7 +6,7 @@
 --     layer-length             the text of a layer: its peaks' lines, their passes' lines, and the text of the next one
 --     layers-length            the text of a layer and those below it: two lines for each entry, one in the first layer
 --     outline-short            the text of an outline has at most 2^27 bytes
---     tops_print-mono           the text of the first tops grows with their number
+--     tops_print-mono          the text of the first tops grows with their number
 --     kinned-short             it is short for any number of them
 -- Assumes nothing.
 use mathlib.Core.Path.{◌≡◌, refl, ap, ◌∙◌}
@@ -140,7 +140,7 @@ module _ {touch : ℕ → ℕ → Type 0} {touch? : ℕ → ℕ → Bool} {level
   outline-short family levels h =
       let short = layers-length family.children n few (λ q. omega (arith, children-few t family q))
       (λ q e m. entry-lined e (children-entry t family q e m)) (levels - 1) 1 (omega arith) family.tops
-      (λ e m. entry-lined e (family.tops-right.sound e m).listed.right) in
+      (λ e m. entry-lined e (family.tops_right.sound e m).listed.right) in
       omega (arith, outline-few t family (levels - 1))
 
 -- ---- over the work area that linking leaves

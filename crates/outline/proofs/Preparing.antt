@@ -36,7 +36,7 @@ module _ (run : Run) (grid : List ℤ) (work : List ℕ) (g : Linkable run (leng
       few = let c = g.cells in omega arith;
       room = let s = g.space in let l = h.len in omega arith;
     };
-    rows-some = let i = g.some in omega arith;
+    rows_some = let i = g.some in omega arith;
     rows_few = let i = g.few in omega arith;
   }
 
@@ -49,7 +49,7 @@ module _ (run : Run) (grid : List ℤ) (work : List ℕ) (g : Linkable run (leng
       record {
         from = u;
         kinned = c';
-        levels-in = cut-equal (held_of run) (level_in u) (level_in t) (λ d l. b'.levels-in d l)
+        levels_in = cut-equal (held_of run) (level_in u) (level_in t) (λ d l. b'.levels_in d l)
             ∙ loaded-stage a' (omega arith);
         small = word_below u bu;
         blank = λ e d l.

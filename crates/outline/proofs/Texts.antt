@@ -109,7 +109,7 @@ module _ {s : List ℕ} {n : ℕ} {peak pass : ℕ → Bool} (t : Threads s n pe
 module _ {touch : ℕ → ℕ → Type 0} {s t : List ℕ} {n T : ℕ} (k : Kinned touch s t n T) (levels : ℕ) where
   pub kinned-text : tops_print t n (levels - 1) n ≡ outline_text k.family.children levels k.family.tops
   kinned-text = sym (ap (outline_text k.family.children levels) k.tops
-      ∙ outline-text k.threads k.family.children k.children k.top-peak levels)
+      ∙ outline-text k.threads k.family.children k.children k.top_peak levels)
 
   pub kinned-outline : Outline touch (cut n (level_in s)) T levels (tops_print t n (levels - 1) n)
   kinned-outline = record { family = k.family; written = kinned-text }

@@ -2,15 +2,16 @@
 --     Strung s n x               links lead through the peaks of the pass x
 --     Hung s n q                 links lead through the passes under the peak q, and through the peaks of each
 --     Linked s n left q          from the peak q on, links lead through peaks and passes, so many levels down
---     pass_print, peak_print       the text of a pass and of a peak, so many levels down, as the links lead
---     tops_print s n left k       the text of the tops among the first k cells, one behind the other
+--     pass_print, peak_print     the text of a pass and of a peak, so many levels down, as the links lead
+--     tops_print s n left k      the text of the tops among the first k cells, one behind the other
 --     PeakPrinting, PassPrinting what the two printers ask
 --     TopPrinting, TopsPrinting  what printing one top, and all, asks
 --     Linkable, GoodOutline      what is known of a call that its tests have passed
 --     Prepared                   the listed peaks of the held cells are linked in the work area
 --     Printable, PrintedAll      before and after all is printed, if the room is long enough
 -- Assumes nothing.
-use Rattle.std.specs.Prelude.{◌≡◌, Bool, true, cond, List, [], ◌∷◌, ◌++◌, ℕ, zero, suc, ◌+◌, ◌-◌, ◌*◌, ◌≤◌, ◌<◌, ltb, ℤ, length, get_or}
+use Rattle.std.specs.Prelude.{◌≡◌, Bool, true, cond, List, [], ◌∷◌, ◌++◌, ℕ, zero, suc, ◌+◌, ◌-◌, ◌*◌, ◌≤◌, ◌<◌, ltb, ℤ}
+use Rattle.std.specs.Prelude.{length, get_or}
 use Rattle.relief.specs.Plane.{touch_of, stage_of}
 use Rattle.relief.specs.Inner.{cut}
 use Rattle.relief.specs.Outline.{peak_line, pass_line, each}
@@ -112,7 +113,7 @@ pub record GoodOutline (run : Run) (grid levels work : ℕ) : Type 0 where
 pub record Prepared (run : Run) (grid : List ℤ) (work work' : List ℕ) (land : ℕ) : Type 0 where
   pub from : List ℕ
   pub kinned : Kinned (touch_of (shape_of run)) from work' (held_of run) run.threshold
-  pub levels-in : cut (held_of run) (level_in from) ≡ (stage_of (shape_of run) run.columns grid).level
+  pub levels_in : cut (held_of run) (level_in from) ≡ (stage_of (shape_of run) run.columns grid).level
   pub small : (c : ℕ) → level_in from c < 4294967296
   pub blank : land ≡ 0 → (c : ℕ) → c < held_of run → level_in work' c ≡ 0
   pub beyond : (i : ℕ) → 16 * held_of run ≤ i → get_or work' i 0 ≡ get_or work i 0

@@ -4,8 +4,8 @@
 --     outline_tests         the tests before the work, in the paper's order
 --     outline_by            what the call tells, by its tests and the room for the text
 --     text_after            the text room after an answer
---     Outlines             the promise: it determines the answer and the text room on all inputs, and all of the work
---                          area but the bytes that it uses
+--     Outlines              the promise: it determines the answer and the text room on all inputs, and all of the work
+--                           area but the bytes that it uses
 -- Assumes nothing.
 use Rattle.std.specs.Prelude.{◌≡◌, Bool, not, ◌||◌, List, [], ◌∷◌, ◌++◌, ℕ, ◌*◌, eqb, ltb, ℤ, length, drop}
 use Rattle.relief.specs.Plane.{touch_of, stage_of}

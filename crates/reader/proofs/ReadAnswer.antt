@@ -197,23 +197,25 @@ module _ (f : List ℕ) (heights table u : ℕ) where
       )
 
   module _ {rows columns peaks : ℕ}
-      (e : read_told (Run rows columns peaks) ≡ told_by tests (granted (rows_in f ∷ columns_in f ∷ peaks_in f ∷ []))) where
-    good : first_of tests ≡ Good
-    good = granted-good tests _ (rows ∷ columns ∷ peaks ∷ []) e
+      (e : read_told (Run rows columns peaks) ≡ told_by tests (granted (rows_in f ∷ columns_in f ∷ peaks_in f ∷ [])))
+    where
+      good : first_of tests ≡ Good
+      good = granted-good tests _ (rows ∷ columns ∷ peaks ∷ []) e
 
-    pub read-readable : Readable f heights table u
-    unfolding read_tests
-    read-readable =
-        let (p1, (p2, (p3, (p4, (p5, (p6, (p7, (p8, t)))))))) = first-passed tests good in
-        record {
-          whole = header-whole f (first_good (header_tests f) (p1, (p2, (p3, (p4, (p5, tt))))));
-          sound = ltb-false u (peaks_in f) p6;
-          room = ltb-false heights (cells_in f) p7;
-          table-room = ltb-false table (peaks_in f) p8;
-        }
+      pub read-readable : Readable f heights table u
+      unfolding read_tests
+      read-readable =
+          let (p1, (p2, (p3, (p4, (p5, (p6, (p7, (p8, t)))))))) = first-passed tests good in
+          record {
+            whole = header-whole f (first_good (header_tests f) (p1, (p2, (p3, (p4, (p5, tt))))));
+            sound = ltb-false u (peaks_in f) p6;
+            room = ltb-false heights (cells_in f) p7;
+            table-room = ltb-false table (peaks_in f) p8;
+          }
 
-    pub read_same : Run rows columns peaks ≡ Run (rows_in f) (columns_in f) (peaks_in f)
-    read_same = read-differ (Run rows columns peaks) (Run (rows_in f) (columns_in f) (peaks_in f)) (e ∙ told-by _ good)
+      pub read_same : Run rows columns peaks ≡ Run (rows_in f) (columns_in f) (peaks_in f)
+      read_same =
+          read-differ (Run rows columns peaks) (Run (rows_in f) (columns_in f) (peaks_in f)) (e ∙ told-by _ good)
 
 -- ---- one answer to a file
 

@@ -15,7 +15,8 @@ use lib.Seq.{ext_get_or}
 use Rattle.record.specs.declared.Peak.{Peak}
 use Rattle.words.specs.Words.{word_at}
 use Rattle.words.proofs.Laws.{word_below}
-use Rattle.layout.specs.Layout.{bits_of, word_of, header_of, fields_of, numbers_of, file_of, rows_in, columns_in, peaks_in}
+use Rattle.layout.specs.Layout.{bits_of, word_of, header_of, fields_of, numbers_of, file_of, rows_in, columns_in}
+use Rattle.layout.specs.Layout.{peaks_in}
 use Rattle.layout.specs.Layout.{cells_in, heights_in, peak_from, record_from, records_from}
 use Rattle.layout.proofs.Complement.{bits-signed}
 use Rattle.layout.proofs.Rows.{bytes-at, heights-length, heights-at, peaks-length, peaks-at}

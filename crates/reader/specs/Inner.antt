@@ -1,8 +1,8 @@
 -- What the functions below `read` ask and promise.
 --     file_grid_tests, header_tests              the tests before any record is looked at
---     GridTaken f hs hs' table a              a is the answer, and hs' the lent heights hs with those of f
---     Takable ps f cells count, filled_from    the table ps takes so many of the records of f; ps with them
---     cells_to_take, records_to_take              how many an answer says are to be taken
+--     GridTaken f hs hs' table a                 a is the answer, and hs' the lent heights hs with those of f
+--     Takable ps f cells count, filled_from      the table ps takes so many of the records of f; ps with them
+--     cells_to_take, records_to_take             how many an answer says are to be taken
 -- Assumes nothing.
 use Rattle.std.specs.Prelude.{Bool, List, ◌++◌, ◌≡◌, ℕ, ◌*◌, ◌≤◌, ◌<◌, ℤ, length, take, drop}
 use Rattle.record.specs.declared.Peak.{Peak}

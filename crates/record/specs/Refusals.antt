@@ -1,6 +1,6 @@
 -- Answers and refusals: section "What comes back" of document 01, and the refusals of document 02.
---     Told             what an answer tells the caller: the paper's number, 0 where nothing is refused, and the values
---     granted values   what an answer tells that is no refusal
+--     Told              what an answer tells the caller: the paper's number, 0 where nothing is refused, and the values
+--     granted values    what an answer tells that is no refusal
 --     told_of r         what the refusal r tells
 --     handed_told a     what the answer of a call tells that hands out records
 --     first_of tests    an order of refusals: the first of the tests that applies

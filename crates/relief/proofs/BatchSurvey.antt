@@ -1,7 +1,7 @@
 -- The batches of a growing run, surveyed: a computing twin of `Closed`, `Batch` and `Rest`,
 -- and that it tells what they say.
---     Staged touch touch? s     the cells of the stage s are a terrain
---     closed? s x               the peak x is closed
+--     Staged touch touch? s       the cells of the stage s are a terrain
+--     closed? s x                 the peak x is closed
 --     survey_batch, survey_rest   what a column call and End hand out
 -- Assumes nothing.
 use mathlib.Core.Path.{◌≡◌, refl, ◌∙◌, ap, subst}

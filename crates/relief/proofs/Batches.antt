@@ -40,7 +40,7 @@ module _ {touch : ℕ → ℕ → Type 0} where
         newer = omega arith;
         fence = f.fence;
         ends = f.ends;
-        ends-after = g.ends-after;
+        ends_after = g.ends_after;
       }
 
 module _ {touch : ℕ → ℕ → Type 0} {touch? : ℕ → ℕ → Bool} {stage : ℕ → Stage}
@@ -60,7 +60,7 @@ module _ {touch : ℕ → ℕ → Type 0} {touch? : ℕ → ℕ → Bool} {stage
         newer = omega arith;
         fence = f.fence;
         ends = f.ends;
-        ends-after = f.ends;
+        ends_after = f.ends;
       }
 
       later : (j : ℕ) → i < j → Further touch (stage i) (stage j)

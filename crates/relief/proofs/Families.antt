@@ -66,7 +66,7 @@ pub outline-unique : {touch : ℕ → ℕ → Type 0} {level : ℕ → ℕ} {T l
 outline-unique {levels = levels} h h' =
     let f = h.family in
     let f' = h'.family in
-    let tops : f.tops ≡ f'.tops = order-unique f.tops f'.tops f.tops-right f'.tops-right in
+    let tops : f.tops ≡ f'.tops = order-unique f.tops f'.tops f.tops_right f'.tops_right in
     let children : f.children ≡ f'.children =
-    fun_ext λ q. pass-order-unique (f.children q) (f'.children q) (f.children-right q) (f'.children-right q) in
+    fun_ext λ q. pass-order-unique (f.children q) (f'.children q) (f.children_right q) (f'.children_right q) in
     h.written ∙ (λ i. outline_text (children i) levels (tops i)) ∙ sym h'.written

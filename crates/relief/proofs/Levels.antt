@@ -1,5 +1,5 @@
 -- Laws of heights and levels.
---     height_of-level            the height at a level has this level
+--     height_of-level           the height at a level has this level
 --     levels-end, levels-take   behind a grid's end levels are 0, and before a cut they are those of the whole grid
 --     cut_below, cut-behind     levels below the limit are as they were, and 0 behind it, ..
 --     cut-equal                 .. and no others count

@@ -204,8 +204,8 @@ module _ {touch : ℕ → ℕ → Type 0} {touch? : ℕ → ℕ → Bool} {level
     family = record {
       tops = survey_tops touch? level n T;
       children = survey_children touch? level n T;
-      tops-right = survey-tops T;
-      children-right = survey-children T;
+      tops_right = survey-tops T;
+      children_right = survey-children T;
     };
     written = refl;
   }

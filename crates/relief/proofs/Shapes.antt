@@ -83,7 +83,7 @@ module _ (shape : Shape) where
         newer = newest-rises shape (i * shape.rows) (j * shape.rows) m;
         fence = newest-fence shape i;
         ends = (stage-staged i hs).ends;
-        ends-after = (stage-staged j hs').ends;
+        ends_after = (stage-staged j hs').ends;
       }
 
   pub run-grows : (heights : List ℤ) → Growing (touch_of shape) (λ j. stage_of shape j heights)
@@ -130,7 +130,8 @@ module _ (shape : Shape) (columns : ℕ) (heights : List ℤ) (whole : length he
         ∙ get_or-append-add heights (replicate shape.rows z) (d - columns * shape.rows) BLANK
         ∙ get_or-replicate shape.rows (d - columns * shape.rows) z BLANK (omega arith))
 
-    pub stage-open-changes : (e : Entry) → Open (touch_of shape) (stage_of shape columns heights) e → e.level < level_of z
+    pub stage-open-changes : (e : Entry) → Open (touch_of shape) (stage_of shape columns heights) e → e.level < level_of
+        z
         → (d : Entry) → PeakEntry (touch_of shape) (stage_of shape (suc columns) grown).level d
         → d.cell ≡ e.cell → floor_of d.key ≡ floor_of e.key → ⊥
     stage-open-changes e o l d right =

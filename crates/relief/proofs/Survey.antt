@@ -1,6 +1,6 @@
 -- The survey: a computing twin of the definitions, cell by cell, and that it tells what they say.
 --     peak?         p is a peak's cell                  key_level     the key height of the peak p, or 0
---     entry_at       the entry of the peak p             listed?      it is listed at T
+--     entry_at      the entry of the peak p             listed?      it is listed at T
 --     survey        the list of a grid
 -- The key height of a peak is the greatest level of a cell at or above which a better cell is reached: on an island
 -- above it there is none, since the least level of a way to it would be greater. Assumes nothing.

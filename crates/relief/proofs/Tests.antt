@@ -1,12 +1,12 @@
 -- Tests that compute, and what they decide: each test of this crate is a Bool with a law that says what it tells.
---     split s f g              goes by the two cases of a sum
---     cond-true, cond-false    the first or the second
---     confirmed, refuted       the answer true decides what holds, and false what does not
---     denies, affirms          what a negated test tells
---     and, or, not             decide a pair, a sum, a negation
+--     split s f g                goes by the two cases of a sum
+--     cond-true, cond-false      the first or the second
+--     confirmed, refuted         the answer true decides what holds, and false what does not
+--     denies, affirms            what a negated test tells
+--     and, or, not               decide a pair, a sum, a negation
 --     any_below n f, all_below   decide whether some or each number below n passes the test f
---     first_from k i f          the first of the k numbers from i on that passes, or i + k
---     top_below n f v           the greatest v i of those i below n that pass, or 0
+--     first_from k i f           the first of the k numbers from i on that passes, or i + k
+--     top_below n f v            the greatest v i of those i below n that pass, or 0
 -- Assumes nothing.
 use mathlib.Core.Path.{◌≡◌, refl, sym, ap, ◌∙◌, subst}
 use mathlib.Core.Bool.{Bool, true, false, cond, not, ◌&&◌, ◌||◌}
@@ -229,7 +229,10 @@ pub record Top (n : ℕ) (f : ℕ → Bool) (v : ℕ → ℕ) (t : ℕ) : Type 0
   pub attained : 0 < t → (i : ℕ) × (i < n) × (f i ≡ true) × (v i ≡ t)
 
 pub top_below_lem : (n : ℕ) (f : ℕ → Bool) (v : ℕ → ℕ) → Top n f v (top_below n f v)
-top_below_lem zero f v = record { upper = λ i h. absurd (not-suc-le-zero h); attained = λ h. absurd (not-suc-le-zero h) }
+top_below_lem zero f v = record {
+  upper = λ i h. absurd (not-suc-le-zero h);
+  attained = λ h. absurd (not-suc-le-zero h);
+}
 top_below_lem (suc n) f v = go (f n) refl (top_below_lem n f v)
   where
     go : (b : Bool) → f n ≡ b → Top n f v (top_below n f v)

@@ -3,7 +3,7 @@
 --     cut limit level          levels of the cells below the limit, and 0 behind it
 --     Better level c x         c comes before x: higher, or as high and earlier
 --     Best touch level k x     no cell that x reaches above k is better than x
---     row_below f n             the cells below n that pass the test f, in reading order
+--     row_below f n            the cells below n that pass the test f, in reading order
 -- Assumes nothing.
 use Rattle.std.specs.Prelude.{◌≡◌, Bool, true, false, cond, List, [], ◌∷◌, ◌++◌, ℕ, zero, suc, ◌<◌, ltb}
 use Rattle.relief.specs.Peaks.{Island}

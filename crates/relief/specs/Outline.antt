@@ -58,8 +58,8 @@ module _ (touch : ℕ → ℕ → Type 0) (level : ℕ → ℕ) where
   pub record Family (T : ℕ) : Type 0 where
     pub tops : List Entry
     pub children : ℕ → List Entry
-    pub tops-right : InReadingOrder (Top T) tops
-    pub children-right : (q : ℕ) → InPassOrder (Child T q) (children q)
+    pub tops_right : InReadingOrder (Top T) tops
+    pub children_right : (q : ℕ) → InPassOrder (Child T q) (children q)
 
 -- ---- lines
 
@@ -88,7 +88,8 @@ peak_line depth cell level out =
 unfoldable pub pass_line : ℕ → ℕ → ℕ → List ℕ
 pass_line depth cell level =
     -- pass
-    decimal_of depth ++ (32 ∷ 112 ∷ 97 ∷ 115 ∷ 115 ∷ 32 ∷ decimal_of cell) ++ (32 ∷ sign_of (height_of level)) ++ (10 ∷ [])
+    decimal_of depth ++ (32 ∷ 112 ∷ 97 ∷ 115 ∷ 115 ∷ 32 ∷ decimal_of cell) ++ (32 ∷ sign_of (height_of level))
+    ++ (10 ∷ [])
 
 -- ---- the text
 

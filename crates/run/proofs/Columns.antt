@@ -61,7 +61,7 @@ loaded-stage {s} {t} {heights} {n} {m} h l = fun_ext λ c.
     split (le-or-lt m c)
     (λ k. cut-behind m (level_in t) c k
     ∙ sym (levels-end (take m heights) c (let e = length-take m heights in omega arith)))
-    (λ k. cut_below m (level_in t) c k ∙ h.levels-in c (omega arith) ∙ sym (levels-take heights m c k))
+    (λ k. cut_below m (level_in t) c k ∙ h.levels_in c (omega arith) ∙ sym (levels-take heights m c k))
 
 -- the stage of a survey is that of the definition, where the cells are the same
 stage_is : (rows columns : ℕ) (whole : List ℤ) {s t : List ℕ} {heights : List ℤ} {n : ℕ} → Loaded s t heights n
@@ -89,8 +89,8 @@ module _ (run : Run) (column grid : List ℤ) (room : ℕ) (work : List ℕ) whe
         (stage_of (shape_of run) (suc run.columns) whole) run.threshold)
         (survey-batch (stage-staged (shape_of run) run.columns whole)
         (stage-staged (shape_of run) (suc run.columns) whole) run.threshold) bad same;
-    run-after = refl;
-    grid-after = ap (λ (c : Checked). column_grid c run column grid) (sym bad);
+    run_after = refl;
+    grid_after = ap (λ (c : Checked). column_grid c run column grid) (sym bad);
   }
 
   pub end_refused : {left : List ℕ} {r : Refusal}
@@ -100,7 +100,7 @@ module _ (run : Run) (column grid : List ℤ) (room : ℕ) (work : List ℕ) whe
     hands = flat-refused (end_tests run (length grid) (length work))
         (survey_rest (touch? (shape_of run)) (stage_of (shape_of run) run.columns grid) run.threshold)
         (survey-rest (stage-staged (shape_of run) run.columns grid) run.threshold) bad same;
-    run-after = refl;
+    run_after = refl;
   }
 
 -- ---- Column
@@ -133,7 +133,7 @@ module _ (run : Run) (column grid : List ℤ) (work : List ℕ)
         few = let c = g.cells in omega arith;
         room = let s = g.space in let l = h.len in omega arith;
       };
-      rows-some = let i = g.some in omega arith;
+      rows_some = let i = g.some in omega arith;
       rows_few = let i = g.few in omega arith;
     },
     omega arith,
@@ -196,8 +196,8 @@ module _ (run : Run) (column grid : List ℤ) (work : List ℕ)
           stage-before stage-after made-is.order) g.good
           (worked-late g.good (made-is.len ∙ loaded.len) (λ i l. made-is.beyond i l ∙ loaded-is.beyond i l))
           (sym (places-length _ k)) made-is.counted (places-record left (with run) k) ea;
-      run-after = ra;
-      grid-after = paste-is ∙ ap (λ (c : Checked). column_grid c run column grid) (sym g.good);
+      run_after = ra;
+      grid_after = paste-is ∙ ap (λ (c : Checked). column_grid c run column grid) (sym g.good);
     }
 
 -- ---- End
@@ -217,7 +217,7 @@ module _ (run : Run) (grid : List ℤ) (work : List ℕ) (g : GoodEnd run (lengt
       few = let c = g.cells in omega arith;
       room = let s = g.space in let l = h.len in omega arith;
     };
-    rows-some = let i = g.some in omega arith;
+    rows_some = let i = g.some in omega arith;
     rows_few = let i = g.few in omega arith;
   }
 
@@ -243,5 +243,5 @@ module _ (run : Run) (grid : List ℤ) (work : List ℕ) (g : GoodEnd run (lengt
           (worked-late g.good (made_held.len ∙ loaded.len)
           (λ i l. made_held.beyond i l ∙ loaded-held.beyond i l))
           (sym (places-length _ k)) made_held.counted (places-record left (held_of run) k) ea;
-      run-after = ra;
+      run_after = ra;
     }

@@ -91,8 +91,8 @@ pub column-unique : ColumnUnique
 column-unique run run' run'' column grid g h work w v table t u a b p q =
     let (e, f, k) = hands-unique order-unique p.hands q.hands in (
       e,
-      p.run-after ∙ ap (λ (x : Handed). column_run x run) e ∙ sym q.run-after,
-      p.grid-after ∙ sym q.grid-after,
+      p.run_after ∙ ap (λ (x : Handed). column_run x run) e ∙ sym q.run_after,
+      p.grid_after ∙ sym q.grid_after,
       f,
       k,
     )
@@ -100,14 +100,14 @@ column-unique run run' run'' column grid g h work w v table t u a b p q =
 pub end-unique : EndUnique
 end-unique run run' run'' grid work w v table t u a b p q =
     let (e, f, k) = hands-unique order-unique p.hands q.hands in
-    (e, p.run-after ∙ ap (λ (x : Handed). end_run x run) e ∙ sym q.run-after, f, k)
+    (e, p.run_after ∙ ap (λ (x : Handed). end_run x run) e ∙ sym q.run_after, f, k)
 
 pub column-flat-unique : ColumnFlatUnique
 column-flat-unique run run' run'' column grid g h work w v room a b p q =
     let (e, f, k) = flat-unique order-unique p.hands q.hands in (
       e,
-      p.run-after ∙ ap (λ (x : Handed). column_run x run) e ∙ sym q.run-after,
-      p.grid-after ∙ sym q.grid-after,
+      p.run_after ∙ ap (λ (x : Handed). column_run x run) e ∙ sym q.run_after,
+      p.grid_after ∙ sym q.grid_after,
       f,
       k,
     )
@@ -115,7 +115,7 @@ column-flat-unique run run' run'' column grid g h work w v room a b p q =
 pub end-flat-unique : EndFlatUnique
 end-flat-unique run run' run'' grid work w v room a b p q =
     let (e, f, k) = flat-unique order-unique p.hands q.hands in
-    (e, p.run-after ∙ ap (λ (x : Handed). end_run x run) e ∙ sym q.run-after, f, k)
+    (e, p.run_after ∙ ap (λ (x : Handed). end_run x run) e ∙ sym q.run_after, f, k)
 
 -- ---- the taken cells
 
@@ -134,9 +134,9 @@ column-takes run run' column grid grid' work work' table table' n c =
     let l = g.fits in
     let w = g.whole in
     let held : held_of run' ≡ held_of run + length column =
-    ap held_of c.run-after ∙ (let e = suc-mul run.columns run.rows in
+    ap held_of c.run_after ∙ (let e = suc-mul run.columns run.rows in
     let f = ap (λ (k : ℕ). k * run.rows) (add-one run.columns) in omega arith) in
-    ap₂ take held (c.grid-after ∙ ap (λ (x : Checked). column_grid x run column grid) g.good)
+    ap₂ take held (c.grid_after ∙ ap (λ (x : Checked). column_grid x run column grid) g.good)
     ∙ take-paste grid (held_of run) column (length column) (omega arith) (omega arith)
     ∙ ap (λ (x : List ℤ). take (held_of run) grid ++ x) (take-length column)
 
@@ -153,7 +153,7 @@ front_kept grid column held l =
 
 pub column-keeps : ColumnKeeps
 column-keeps run run' column grid grid' work work' table table' r c =
-    (c.run-after, ap (take (held_of run)) c.grid-after ∙ go _ refl)
+    (c.run_after, ap (take (held_of run)) c.grid_after ∙ go _ refl)
   where
     go : (x : Checked) → first_of (column_tests run (length column) (length grid) (length work)) ≡ x
         → take (held_of run) (column_grid x run column grid) ≡ take (held_of run) grid

@@ -26,7 +26,7 @@ module _ {run : Run} {grid : List ℤ} {work : List ℕ} (table : List Peak) {le
     (h : EndsFlat run grid work (length table) left after a) where
   -- the cells that the record counts after the call
   end-held : (n : ℕ) → a ≡ Count n → held_of after ≡ held_of run
-  end-held n q = ap held_of (h.run-after ∙ ap (λ (x : Handed). end_run x run) q)
+  end-held n q = ap held_of (h.run_after ∙ ap (λ (x : Handed). end_run x run) q)
 
   pub end-fillable : Fillable table left (cells_read a (held_of after)) (count_in a)
   end-fillable = flat-fillable table a end-held h.hands
@@ -34,7 +34,7 @@ module _ {run : Run} {grid : List ℤ} {work : List ℕ} (table : List Peak) {le
   pub end-filled : {t : List Peak}
       → t ≡ records_in left (cells_read a (held_of after)) (count_in a) ++ drop (count_in a) table
       → Ends run grid work left table t after a
-  end-filled e = record { hands = flat-hands table a end-held h.hands e; run-after = h.run-after }
+  end-filled e = record { hands = flat-hands table a end-held h.hands e; run_after = h.run_after }
 
 -- ---- Column
 
@@ -42,7 +42,7 @@ module _ {run : Run} {column grid grid' : List ℤ} {work : List ℕ} (table : L
     {a : Handed} (h : ColumnsFlat run column grid grid' work (length table) left after a) where
   column-held : (n : ℕ) → a ≡ Count n → held_of after ≡ held_of run + run.rows
   column-held n q =
-      ap held_of (h.run-after ∙ ap (λ (x : Handed). column_run x run) q)
+      ap held_of (h.run_after ∙ ap (λ (x : Handed). column_run x run) q)
       ∙ ap (λ (k : ℕ). k * run.rows) (add-one run.columns) ∙ suc-mul run.columns run.rows
 
   pub column-fillable : Fillable table left (cells_read a (held_of after)) (count_in a)
@@ -53,6 +53,6 @@ module _ {run : Run} {column grid grid' : List ℤ} {work : List ℕ} (table : L
       → Columns run column grid grid' work left table t after a
   column-filled e = record {
     hands = flat-hands table a column-held h.hands e;
-    run-after = h.run-after;
-    grid-after = h.grid-after;
+    run_after = h.run_after;
+    grid_after = h.grid_after;
   }

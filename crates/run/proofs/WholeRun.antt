@@ -75,7 +75,8 @@ told_more run run' cells column batches b n t e f h =
         let c : j ≡ run.columns = q ∙ sym t.many in
         let g : get_or (batches ++ (b ∷ [])) j [] ≡ b =
         ap (λ (i : ℕ). get_or (batches ++ (b ∷ [])) i []) q ∙ get_or-append_seam batches b [] [] in
-        subst₂ (λ (i : ℕ) (x : List Entry). Batch (touch_of (shape_of run)) (stage_of (shape_of run) i (cells ++ column))
+        subst₂ (λ (i : ℕ) (x : List Entry). Batch (touch_of (shape_of run))
+        (stage_of (shape_of run) i (cells ++ column))
         (stage_of (shape_of run) (suc i) (cells ++ column)) run.threshold x) (sym c) (sym g) h
 
     earlier : (j : ℕ) → j < length batches
@@ -107,14 +108,14 @@ pub calls-told : {run : Run} {cells : List ℤ} {batches : List (List Entry)} �
     → Told run cells batches
 calls-told (begun {run} rows T s) = told-begun rows T run s
 calls-told (taken {run} {run'} {cells} {column} {batches = batches} {n} c e h) =
-    told_more run run' cells column batches h.hands.entries n (calls-told c) (taken-passed h).whole h.run-after
+    told_more run run' cells column batches h.hands.entries n (calls-told c) (taken-passed h).whole h.run_after
     (subst (λ (x : List ℤ). Batch (touch_of (shape_of run)) (stage_of (shape_of run) run.columns (x ++ column))
     (stage_of (shape_of run) (suc run.columns) (x ++ column)) run.threshold h.hands.entries) e
     h.hands.right)
 calls-told (refused {run} {run'} {cells} {batches = batches} c h) =
-    subst (λ (r : Run). Told r cells batches) (sym h.run-after) (calls-told c)
+    subst (λ (r : Run). Told r cells batches) (sym h.run_after) (calls-told c)
 calls-told (unended {run} {run'} {cells} {batches = batches} c h) =
-    subst (λ (r : Run). Told r cells batches) (sym h.run-after) (calls-told c)
+    subst (λ (r : Run). Told r cells batches) (sym h.run_after) (calls-told c)
 
 pub run_holds : RunHolds
 run_holds run run' cells grid batches n work work' table table' c e h =

@@ -14,11 +14,12 @@ pub record ColumnsFlat (run : Run) (column grid grid' : List ℤ) (work : List �
     (run' : Run) (answer : Handed) : Type 0 where
   pub hands : HandsFlat (column_tests run (length column) (length grid) (length work)) (held_of run + run.rows)
       (ColumnBatch run column grid) work room left answer
-  pub run-after : run' ≡ column_run answer run
-  pub grid-after : grid'
+  pub run_after : run' ≡ column_run answer run
+  pub grid_after : grid'
       ≡ column_grid (first_of (column_tests run (length column) (length grid) (length work))) run column grid
 
 pub record EndsFlat (run : Run) (grid : List ℤ) (work : List ℕ) (room : ℕ) (left : List ℕ) (run' : Run)
     (answer : Handed) : Type 0 where
-  pub hands : HandsFlat (end_tests run (length grid) (length work)) (held_of run) (EndRest run grid) work room left answer
-  pub run-after : run' ≡ end_run answer run
+  pub hands : HandsFlat (end_tests run (length grid) (length work)) (held_of run) (EndRest run grid) work room left
+      answer
+  pub run_after : run' ≡ end_run answer run

@@ -1,6 +1,6 @@
 -- A growing run: sections "A growing run" and "What comes back" of document 01.
---     started_told, Starts            what the answer of Start tells, and its promise
---     column_grid                     the grid after a column call
+--     started_told, Starts           what the answer of Start tells, and its promise
+--     column_grid                    the grid after a column call
 --     Columns, Ends                  the promises of Column and End: they determine the answer, the record and all that
 --                                    was lent, but for the bytes of the work area that are used
 -- What they say of the run record and of the tests stands in `running`. Assumes nothing.
@@ -56,8 +56,8 @@ pub record Columns (run : Run) (column grid grid' : List ℤ) (work work' : List
     (run' : Run) (answer : Handed) : Type 0 where
   pub hands : Hands (column_tests run (length column) (length grid) (length work)) (held_of run + run.rows)
       (ColumnBatch run column grid) work work' table table' answer
-  pub run-after : run' ≡ column_run answer run
-  pub grid-after : grid'
+  pub run_after : run' ≡ column_run answer run
+  pub grid_after : grid'
       ≡ column_grid (first_of (column_tests run (length column) (length grid) (length work))) run column grid
 
 -- ---- End
@@ -71,4 +71,4 @@ pub record Ends (run : Run) (grid : List ℤ) (work work' : List ℕ) (table tab
     (answer : Handed) : Type 0 where
   pub hands : Hands (end_tests run (length grid) (length work)) (held_of run) (EndRest run grid) work work' table table'
       answer
-  pub run-after : run' ≡ end_run answer run
+  pub run_after : run' ≡ end_run answer run

@@ -18,7 +18,8 @@ use Rattle.reader.specs.Inner.{Takable, cells_to_take, records_to_take, filled_f
 use Rattle.reader.proofs.ReadAnswer.{read-readable, read_same}
 
 module _ (f : List ℕ) (heights : ℕ) (ps : List Peak) where
-  pub takable : (a : ReadBack) → ReadAnswers f heights (length ps) a → Takable ps f (cells_to_take a) (records_to_take a)
+  pub takable : (a : ReadBack) → ReadAnswers f heights (length ps) a → Takable ps f (cells_to_take a)
+      (records_to_take a)
   takable (Run rows columns peaks) j =
       let e = j.answered in
       let r = read-readable f heights (length ps) j.unsound e in

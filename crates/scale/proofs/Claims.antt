@@ -1,5 +1,5 @@
--- The claims hold. Those on levels are laws of `Levels`. At two literal heights the difference computes, and two naturals
--- that are equal as integers are equal. Assumes nothing.
+-- The claims hold. Those on levels are laws of `Levels`. At two literal heights the difference computes, and two
+-- naturals that are equal as integers are equal. Assumes nothing.
 use Rattle.scale.specs.Claims.{ProminentGreatest, ProminentLeast, Claims}
 use Rattle.scale.proofs.Levels.{level-below, level-blank-iff, level-injective, level-le-iff, level-lt-iff}
 use Rattle.scale.proofs.Levels.{level-difference, prominent-levels}

@@ -1,5 +1,5 @@
--- Laws of levels and of the mark: the one file of the crate that unfolds `level_of` and `is_mark`. Those that are claims
--- are stated in specs/Claims.antt.
+-- Laws of levels and of the mark: the one file of the crate that unfolds `level_of` and `is_mark`. Those that are
+-- claims are stated in specs/Claims.antt.
 --     level-raise                   z + 2^31 is the level of z
 --     level-below                   levels are below 2^32
 --     level-onto                    a number below 2^32 is the level of the height that is less by 2^31

@@ -4,7 +4,7 @@
 --     DecidesSound cells least p here there r  r tells whether p is sound in a grid of so many cells, in which p's cell
 --                                              and pass cell hold here and there
 --     STOPPED, Scans heights state i p r       a scan as one number, and r as its state after the i-th record
---     scanned_of state n                        what a scan of n records has found
+--     scanned_of state n                       what a scan of n records has found
 -- Assumes nothing.
 use Rattle.std.specs.Prelude.{Bool, cond, List, ◌⊎◌, ◌≡◌, ℕ, ◌+◌, ◌-◌, ◌≤◌, ◌<◌, ltb, ℤ, length, get_or}
 use Rattle.relief.specs.Heights.{BLANK}

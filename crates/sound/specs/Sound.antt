@@ -2,8 +2,8 @@
 --     Keyless p                      both key fields are missing
 --     Keyed heights p                neither is, and they fit the grid
 --     Sound heights least p          the record p is sound, if the record before it leaves it the cells from least on
---     ith_of records i                the i-th record
---     least_at records i              the least cell that is later than that of the record before the i-th
+--     ith_of records i               the i-th record
+--     least_at records i             the least cell that is later than that of the record before the i-th
 --     FirstUnsound heights records i i is the index of the first record that is not sound, their number if all are
 --     GridOf rows heights            a grid that has a file: its rows, its cells, its heights
 --     SoundRow heights records       every record of the row is sound

@@ -61,7 +61,7 @@ module _ {rows bytes work : ℕ} (g : GoodBytes rows bytes work) where
       → r ≡ rows → Surveying t (bytes / 4) r
   bytes-surveying e h q = record {
     area = bytes-area (h.len ∙ e);
-    rows-some = let h = g.some in omega arith;
+    rows_some = let h = g.some in omega arith;
     rows_few = let h = g.few in omega arith;
   }
 

@@ -1,5 +1,5 @@
 -- The C entry: the last paragraph of section "What comes back" of document 01, over the layouts of "Run file".
---     suite_tests     the tests before the work, in the paper's order
+--     suite_tests    the tests before the work, in the paper's order
 --     SuiteLists     the promise of the call: it determines the answer and the table on all inputs, and all of the work
 --                    area but the bytes that it uses
 -- A height has 4 bytes. Assumes nothing.

@@ -81,7 +81,8 @@ module _ {touch : ℕ → ℕ → Type 0} {L : ℕ → ℕ} {newest limit : ℕ}
     no-blank : level_in t c ≡ 0 → Peak touch L c → ⊥
     no-blank e p = let f = r.same c below in let l = p.land in omega arith
 
-    no-slope : 0 < level_in t c → (parent_in t n c ≡ c → ⊥) → level_in t c ≤ level_in t (pass_of t n c) → Peak touch L c → ⊥
+    no-slope : 0 < level_in t c → (parent_in t n c ≡ c → ⊥) → level_in t c ≤ level_in t (pass_of t n c) → Peak touch L c
+        → ⊥
     no-slope l d m p =
         let e = r.same c below in
         let f = pass_same l in
@@ -182,7 +183,8 @@ module _ {touch : ℕ → ℕ → Type 0} {L : ℕ → ℕ} {newest limit : ℕ}
   whole-told T c l =
       decides-iff (λ h. h.0) (λ h. (h, tt)) (and-decides (listed-decides c l T) (always {A = Unit {0}} tt refl))
 
-  pub open-part-told : (T c : ℕ) → c < limit → Decides (Remaining touch stage T (entry_in t n c)) (chosen_in t n T Open c)
+  pub open-part-told : (T c : ℕ) → c < limit → Decides (Remaining touch stage T (entry_in t n c))
+      (chosen_in t n T Open c)
   unfolding chosen_in
   open-part-told T c l = go (listed_in t n T c) refl
     where

@@ -32,7 +32,7 @@ use Rattle.survey.proofs.Records.{places-record, places-length}
 pub grid-surveying : {rows cells work : ℕ} → GoodGrid rows cells work → {s t : List ℕ} {heights : List ℤ} {r : ℕ}
     → length s ≡ work → Loaded s t heights cells → r ≡ rows → Surveying t cells r
 grid-surveying g e h q =
-    let (area, some, few) = grid-loaded g e h q in record { area = area; rows-some = some; rows_few = few }
+    let (area, some, few) = grid-loaded g e h q in record { area = area; rows_some = some; rows_few = few }
 
 module _ (tests : List (Bool × Refusal)) (shape : Shape) (T room : ℕ) (hs : List ℤ) {n : ℕ} {work left : List ℕ} where
   pub list-refused : {r : Refusal} → first_of tests ≡ Bad r → left ≡ work

@@ -2,7 +2,7 @@
 --     height-unique               a height of 32 bits with the level l, passed on, is `height_of l`
 --     peak-without-key            the record of a cell that hangs under none
 --     peak-with-key               the record of another
---     standing-pointed             what `record_at` asks of the i-th cell, of a work area with so many listed cells
+--     standing-pointed            what `record_at` asks of the i-th cell, of a work area with so many listed cells
 --     records-grow                the records of the first cells of the order are a row that grows
 -- Assumes nothing.
 use mathlib.Core.Path.{◌≡◌, refl, sym, ◌∙◌}

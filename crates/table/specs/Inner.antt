@@ -1,14 +1,15 @@
 -- The records that a survey leaves in the work area as flat numbers, and what is asked to fill a lent row with them.
 --     Pointed s n c           the work area holds c's numbers, and those of its pass cell
---     peak_in s n c            the record of the peak at the cell c
---     records_in s n count     the records of the first so many cells of the order quarter
+--     peak_in s n c           the record of the peak at the cell c
+--     records_in s n count    the records of the first so many cells of the order quarter
 --     Fillable t s n count    the row t has room for them, and the work area s holds cells where they are asked for
 --     Standing s n count      so many listed cells stand in the order quarter, each with a pass cell
---     room_answer room count   the answer of a call whose work is done
---     count_in, cells_read      how many records an answer has, and of how many cells they are read
+--     room_answer room count  the answer of a call whose work is done
+--     count_in, cells_read    how many records an answer has, and of how many cells they are read
 --     HandsFlat               what a call promises that knows only the room of the row
 -- Assumes nothing.
-use Rattle.std.specs.Prelude.{◌≡◌, Bool, true, false, cond, List, [], ◌∷◌, ◌++◌, map, ℕ, zero, suc, ◌≤◌, ◌<◌, eqb, ltb, length}
+use Rattle.std.specs.Prelude.{◌≡◌, Bool, true, false, cond, List, [], ◌∷◌, ◌++◌, map, ℕ, zero, suc, ◌≤◌, ◌<◌, eqb, ltb}
+use Rattle.std.specs.Prelude.{length}
 use Rattle.relief.specs.Heights.{height_of}
 use Rattle.relief.specs.Peaks.{Entry}
 use Rattle.record.specs.declared.Peak.{Peak}

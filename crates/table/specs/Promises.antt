@@ -2,8 +2,8 @@
 -- pass" of document 01. It is said once for all such calls: each has its tests, and its list of entries.
 --     handed_by tests room needed    what the call tells, by its tests and the room for the records that are needed
 --     table_after a rs t             the row t after an answer that hands out the records rs
---     Worked tests cells w w'       what is known of the work area w after the call, w'
---     Hands                         the promise, with a lent row of records
+--     Worked tests cells w w'        what is known of the work area w after the call, w'
+--     Hands                          the promise, with a lent row of records
 -- Assumes nothing.
 use Rattle.std.specs.Prelude.{◌≡◌, Bool, List, [], ◌∷◌, ◌++◌, map, ℕ, ◌*◌, ◌≤◌, ltb, length, drop, get_or}
 use Rattle.relief.specs.Peaks.{Entry}

@@ -137,7 +137,7 @@ module _ (t : Touching) {s s' : Stage} (f : Further t.touch s s') where
   before = touching-terrain t s.level s.cells f.ends
 
   after : Terrain t.touch (λ a b. is_yes (t.told a b)) s'.level s'.cells
-  after = touching-terrain t s'.level s'.cells f.ends-after
+  after = touching-terrain t s'.level s'.cells f.ends_after
 
 of-handing : (t : Touching) (stage : ℕ → Stage) (columns T : ℕ) (batch : ℕ → List Entry) (rest : List Entry)
     → Handing t.touch stage columns T batch rest → OfHanding t.touch stage columns T batch rest

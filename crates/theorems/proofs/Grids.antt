@@ -114,7 +114,8 @@ follows-from shape T heights j [] rest e =
     )
 follows-from shape T heights j (batch ∷ batches) rest e =
     let (h, i) = and-true _ (agrees_from shape T heights (suc j) batches rest) e in (
-      subst (Batch (touch_of shape) (stage_of shape j heights) (stage_of shape (suc j) heights) T) (same-equal _ batch h)
+      subst (Batch (touch_of shape) (stage_of shape j heights) (stage_of shape (suc j) heights) T)
+          (same-equal _ batch h)
           (survey-batch (stage-staged shape j heights) (stage-staged shape (suc j) heights) T),
       follows-from shape T heights (suc j) batches rest i,
     )
@@ -138,7 +139,8 @@ follow (outline rows T depths heights text ∷ xs) e =
     )
 
 pub marked-follow : Follow marked
-unfolding marked levels level_of peak? better? joined? key_level entry_at closed? listed? survey survey_rest survey_batch
+unfolding marked levels level_of peak? better? joined? key_level entry_at closed? listed? survey survey_rest
+    survey_batch
     height_of decimal_of peak_line pass_line each peak_text parent? survey_tops survey_children survey_outline
 marked-follow = follow marked agree
   where

@@ -27,7 +27,8 @@ word_below s b i = omega (arith, b (4 * i), b (4 * i + 1), b (4 * i + 2), b (4 *
 -- ---- bytes from numbers
 
 module _ (s t : List ℕ) (b : Bytes s) (d : Bytes t) where
-  pub word_bytes : (j : ℕ) → word_at t j ≡ word_at s j → (r : ℕ) → r < 4 → get_or t (4 * j + r) 0 ≡ get_or s (4 * j + r) 0
+  pub word_bytes : (j : ℕ) → word_at t j ≡ word_at s j → (r : ℕ) → r < 4 → get_or t (4 * j + r) 0 ≡ get_or s (4 * j + r)
+      0
   unfolding word_at
   word_bytes j e r l =
       let b0 = b (4 * j) in

@@ -1,5 +1,5 @@
 -- 32-bit numbers in lent bytes: "all is little-endian". And bytes laid over others.
---     word_at s i         the number at the bytes 4 i to 4 i + 3 of s
+--     word_at s i        the number at the bytes 4 i to 4 i + 3 of s
 --     Stored s t i v     t is s with the number v at the i-th place, and nothing else changed
 --     over s at bs       s with the bytes bs from the place at on
 -- Assumes nothing.
@@ -7,7 +7,8 @@ use Rattle.std.specs.Prelude.{◌≡◌, List, ◌++◌, ℕ, ◌+◌, ◌*◌, 
 
 unfoldable pub word_at : List ℕ → ℕ → ℕ
 word_at s i =
-    get_or s (4 * i) 0 + get_or s (4 * i + 1) 0 * 256 + get_or s (4 * i + 2) 0 * 65536 + get_or s (4 * i + 3) 0 * 16777216
+    get_or s (4 * i) 0 + get_or s (4 * i + 1) 0 * 256 + get_or s (4 * i + 2) 0 * 65536 + get_or s (4 * i + 3) 0 *
+    16777216
 
 pub record Stored (s t : List ℕ) (i v : ℕ) : Type 0 where
   pub here : word_at t i ≡ v

@@ -90,7 +90,8 @@ module _ (rows cells : ℕ) where
           (lt-ltb u n l)))
 
       module _ (sound : n ≤ u) where
-        pub room-refused : (told : Told) → room < total_of cells n → told_of (Room (total_of cells n)) ≡ told_by tests told
+        pub room-refused : (told : Told) → room < total_of cells n → told_of (Room (total_of cells n)) ≡ told_by tests
+            told
         unfolding write_tests
         room-refused told l =
             let (p1, (p2, (p3, t))) = grid-passed in

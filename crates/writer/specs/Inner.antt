@@ -1,9 +1,9 @@
 -- What the functions below `write` ask and promise.
---     grid_tests                                the tests before any record is looked at
+--     grid_tests                               the tests before any record is looked at
 --     Few cells n unsound                      what is known of the index of the first unsound record
 --     GridPut rows heights n unsound s s' a    a is the answer, and s' the room s with header and heights in it
 --     Puttable s cells ps count, laid          the room s takes so many of the records ps; s with them
---     put_of                                    how many records an answer says are to be put
+--     put_of                                   how many records an answer says are to be put
 -- Assumes nothing.
 use Rattle.std.specs.Prelude.{Bool, List, [], ◌∷◌, ◌++◌, map, ◌≡◌, ℕ, ◌+◌, ◌*◌, ◌≤◌, ◌<◌, ℤ, length, take}
 use Rattle.record.specs.declared.Peak.{Peak}

@@ -20,7 +20,7 @@ abbrev start : tie.After-load → tie.Start
 start c = c.before.before.before.before.before.before
 
 abbrev begun : tie.After-key_level-k → tie.Start
-begun c = c.before.before.before.before.before.before.before.before.before.before.before
+begun c = start (loaded c)
 
 load-requires : tie.Need-load-requires
 load-requires c κs = grid-loading c.requires refl refl
@@ -67,7 +67,7 @@ above c = let e = level c.before in let l = c.if-level_at-k.false in omega arith
 returns-2 : tie.Need-returns-then-short_rows
 returns-2 c =
     let at-else = c.before.before in
-    let at_key = c.before.before.before.before.before.before in
+    let at_key = at-else.before.before.before.before in
     let s = begun at_key in
     account-short s.args.path.now s.args.island.now s.requires (known at_key) (above at-else)
     c.short_rows.ensures c.if-short_rows.true
@@ -75,7 +75,7 @@ returns-2 c =
 draw-requires : tie.Need-draw-requires
 draw-requires c κs =
     let at-else = c.before.before.before.before.before.before in
-    let at_key = c.before.before.before.before.before.before.before.before.before.before in
+    let at_key = at-else.before.before.before.before in
     let s = begun at_key in
     account-drawable s.args.path.now s.args.island.now s.requires (known at_key) (above at-else)
     c.short_rows.ensures c.if-short_rows.false refl c.index-2.ensures
@@ -84,7 +84,7 @@ draw-requires c κs =
 returns-3 : tie.Need-returns
 returns-3 c =
     let at-else = c.before.before.before.before.before.before.before.before.before.before.before.before.before in
-    let at_key = c.before.before.before.before.before.before.before.before.before.before.before.before.before.before.before.before.before in
+    let at_key = at-else.before.before.before.before in
     let s = begun at_key in
     account-made s.args.path.now s.args.island.now s.requires (known at_key) (above at-else)
     c.short_rows.ensures c.if-short_rows.false refl c.index-2.ensures

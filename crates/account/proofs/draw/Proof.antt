@@ -15,7 +15,7 @@ start c = c.before.before.before.before.before.before
 draw-island-requires : tie.Need-draw_island-cells-requires
 draw-island-requires c κs =
     let w = c.requires in
-    draw-drawing w (λ d l. refl) refl w.island-room
+    draw-drawing w (λ d l. refl) refl w.island_room
 
 draw-path-requires : tie.Need-draw_path-steps-requires
 draw-path-requires c κs =
@@ -36,7 +36,8 @@ narrow-requires-2 c κs =
 
 returns : tie.Need-returns
 returns c =
-    let at-island = c.before.before.before.before.before.before.before.before.before.before.before.before.before.before in
+    let at-island = c.before.before.before.before.before.before.before.before.before.before.before.before.before.before
+    in
     let fits : SFits w32 c.height.result = record { sfits = c.height.type_inv } in
     let e = to_z-of_z w32 c.height.result fits in
     drew (start at-island).requires c.draw_island-cells.ensures c.draw_path-steps.ensures

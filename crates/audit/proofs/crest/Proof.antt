@@ -17,7 +17,7 @@ top-requires c κs =
     let g = c.requires.0 in
     record {
       area = g.area;
-      rows-some = g.rows-some;
+      rows_some = g.rows_some;
       rows_few = g.rows_few;
       cell = c.requires.1;
       land = omega arith;

@@ -50,7 +50,7 @@ abbrev if2-of : tie.After-get → tie.Else-level-own
 if2-of c = c.before.before.before.before.before
 
 abbrev get2-of : tie.After-get → tie.After-get-level
-get2-of c = c.before.before.before.before.before.before.before
+get2-of c = (if2-of c).before.before
 
 same : (c : tie.After-get) → let a = (entry (get2-of c)).args in
     (get2-of c).get-level.result ≡ cut a.n (level_in a.work.now) a.p

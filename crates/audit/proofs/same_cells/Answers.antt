@@ -1,4 +1,5 @@
--- `same_cells` meets its contract. At a reached cell the row has to go on with it; any other is passed. Assumes nothing.
+-- `same_cells` meets its contract. At a reached cell the row has to go on with it; any other is passed. Assumes
+-- nothing.
 use Rattle.std.proofs.Common.{◌≡◌, ◌<◌, true, false, arith}
 use Rattle.flood.specs.Flood.{reached_in}
 use Rattle.flood.proofs.Reached.{reached-decides}

@@ -56,4 +56,5 @@ returns-2 : tie.Need-returns invariant-loop decreases-loop
 returns-2 c = confirmed (λ j l. c.loop-i.invariant.1 j (omega (arith, c.loop-i-test.false)))
 
 pub stays_spec : {M : Type 1} → statement M
-stays_spec = tie.close (tie.spec invariant-loop decreases-loop loop-holds steps-requires returns add-i loop-less loop-again returns-2)
+stays_spec = tie.close (tie.spec invariant-loop decreases-loop loop-holds steps-requires returns add-i loop-less
+    loop-again returns-2)

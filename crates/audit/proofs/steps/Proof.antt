@@ -61,7 +61,7 @@ touches-requires c κs =
     let s = entry at-if3 in
     let l = s.requires.last (omega (arith, c.if-i-eq0.false)) in
     let few = s.requires.audited.area.few in
-    (s.requires.audited.rows-some, omega (arith, c.index.ensures), omega arith)
+    (s.requires.audited.rows_some, omega (arith, c.index.ensures), omega arith)
 
 returns-4 : tie.Need-returns
 returns-4 c =

@@ -115,5 +115,6 @@ returns c =
 pub put_trail_spec : {M : Type 1} → statement M
 put_trail_spec =
     tie.close
-    (tie.spec invariant-loop decreases-loop loop-holds (λ c. c.loop-i-test.true) add-get get-requires mul-row slice-write-row mul-get
+    (tie.spec invariant-loop decreases-loop loop-holds (λ c. c.loop-i-test.true) add-get get-requires mul-row
+    slice-write-row mul-get
     (λ c κs. tt) add-get-2 get-requires-2 (λ c κs. tt) loop-less loop-again same_length returns)

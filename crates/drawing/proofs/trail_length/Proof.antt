@@ -92,5 +92,6 @@ returns c = let t = c.requires in counts-done t (c.loop-j.invariant t) c.loop-j-
 pub trail_length_spec : {M : Type 1} → statement M
 trail_length_spec =
     tie.close
-    (tie.spec invariant-loop decreases-loop loop-holds mul-get add-get get-requires index-requires add-get-2 get-requires-2
+    (tie.spec invariant-loop decreases-loop loop-holds mul-get add-get get-requires index-requires add-get-2
+    get-requires-2
     (λ c κs. tt) add-count loop-less loop-again returns)

@@ -40,4 +40,5 @@ returns c =
 
 pub best_cell_spec : {M : Type 1} → statement M
 best_cell_spec =
-    tie.close (tie.spec invariant-loop decreases-loop loop-holds better-cell-requires add-c loop-less loop-again returns)
+    tie.close (tie.spec invariant-loop decreases-loop loop-holds better-cell-requires add-c loop-less loop-again
+    returns)

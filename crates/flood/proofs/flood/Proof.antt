@@ -59,7 +59,7 @@ look-requires c κs =
         few = p.area.few;
         room = let r = p.area.room in let l = h.len in let m = (begin at-put2).len in omega arith;
       };
-      rows-some = p.rows-some;
+      rows_some = p.rows_some;
       rows_few = p.rows_few;
       more = c.loop-head-test.true;
       spreading = h.spreading;
@@ -94,5 +94,6 @@ returns c =
 pub flood_spec : {M : Type 1} → statement M
 flood_spec =
     tie.close
-    (tie.spec invariant-loop decreases-loop sieve-requires mul-put add-put put-requires narrow-requires put-requires-2 loop-holds
+    (tie.spec invariant-loop decreases-loop sieve-requires mul-put add-put put-requires narrow-requires put-requires-2
+    loop-holds
     look-requires add-head loop-less loop-again same_length returns)

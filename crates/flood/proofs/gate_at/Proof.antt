@@ -45,7 +45,7 @@ get-requires c κs =
 returns : tie.Need-returns-then-inner
 returns c =
     let at_place = c.before.before in
-    let s = c.before.before.before.before.before.before in
+    let s = at_place.before.before.before.before in
     let g = c.requires in
     let e =
     inner-is g.around g.which c.spread.ensures (g.inside c.if-inner.true)

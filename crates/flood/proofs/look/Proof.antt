@@ -41,15 +41,15 @@ around c =
     let p = c.requires in
     let e = at_head c in
     record {
-      rows-some = p.rows-some;
+      rows_some = p.rows_some;
       rows_few = p.rows_few;
-      limit-few = p.area.few;
+      limit_few = p.area.few;
       cell = let q = (p.spreading.queued _ p.more).0 in omega arith;
       place = refl;
     }
 
 rem_row : tie.Need-nonzero_rem-row invariant-loop decreases-loop
-rem_row c = c.requires.rows-some
+rem_row c = c.requires.rows_some
 
 is-inner-requires : tie.Need-is_inner-inner-requires invariant-loop decreases-loop
 is-inner-requires c κs = around c
@@ -58,7 +58,7 @@ loop-holds : tie.Need-loop-i-init invariant-loop decreases-loop
 loop-holds c =
     let at-index = c.before in
     let p = c.requires in
-    (look-start p.rows-some (at_head at-index) p.spreading, omega arith)
+    (look-start p.rows_some (at_head at-index) p.spreading, omega arith)
 
 reach-requires : tie.Need-reach-last-requires invariant-loop decreases-loop
 reach-requires c κs =
@@ -89,7 +89,7 @@ loop-again c =
     let p = c.requires in
     let h = c.loop-i.invariant in
     let l = c.loop-i-test.true in
-    (look-step p.rows-some (at_head at-index) p.more h.0 l c.reach-last.ensures, omega arith)
+    (look-step p.rows_some (at_head at-index) p.more h.0 l c.reach-last.ensures, omega arith)
 
 same_length : tie.Need-shape_of-work invariant-loop decreases-loop
 same_length c = c.loop-i.invariant.0.onward.len
@@ -98,10 +98,11 @@ returns : tie.Need-returns invariant-loop decreases-loop
 returns c =
     let at-index = c.before.before.before in
     let p = c.requires in
-    look-done p.rows-some (at_head at-index) p.more c.loop-i.invariant.0 c.loop-i-test.false
+    look-done p.rows_some (at_head at-index) p.more c.loop-i.invariant.0 c.loop-i-test.false
 
 pub look_spec : {M : Type 1} → statement M
 look_spec =
     tie.close
-    (tie.spec invariant-loop decreases-loop add-get get-requires (λ c κs. tt) rem_row is-inner-requires loop-holds reach-requires
+    (tie.spec invariant-loop decreases-loop add-get get-requires (λ c κs. tt) rem_row is-inner-requires loop-holds
+    reach-requires
     add-i loop-less loop-again same_length returns)

@@ -89,7 +89,7 @@ same-length-2 c =
 returns-2 : tie.Need-returns
 returns-2 c =
     let at_place = c.before.before.before.before.before.before.before.before.before.before in
-    let at-if1 = c.before.before.before.before.before.before.before.before.before.before.before.before in
+    let at-if1 = at_place.before.before in
     let a = c.args in
     let (l, e) = open-cell at-if1 in
     let f = (placed at_place).0 in

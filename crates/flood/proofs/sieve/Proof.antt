@@ -67,5 +67,6 @@ returns c =
 pub sieve_spec : {M : Type 1} → statement M
 sieve_spec =
     tie.close
-    (tie.spec invariant-loop decreases-loop loop-holds get-requires mul-put add-put gate-requires put-requires add-c loop-less
+    (tie.spec invariant-loop decreases-loop loop-holds get-requires mul-put add-put gate-requires put-requires add-c
+    loop-less
     loop-again same_length returns)

@@ -27,7 +27,7 @@ abbrev mark_of : tie.After-cell_in-q → tie.After-mark_in
 mark_of c = c.before.before.before
 
 abbrev entry : tie.After-cell_in-q → tie.Start
-entry c = c.before.before.before.before.before.before
+entry c = mark-entry (mark_of c)
 
 marked : (c : tie.After-cell_in-q) → let a = (entry c).args in mark_in (parent_in a.work.now a.n a.x) ≡ true
 marked c =

@@ -56,5 +56,6 @@ returns c = threaded-done c.loop-i-test.false c.loop-i.invariant
 pub thread_passes_spec : {M : Type 1} → statement M
 thread_passes_spec =
     tie.close
-    (tie.spec invariant-loop decreases-loop loop-holds sub-i add-get get-requires (λ c κs. search rules) thread-requires loop-less
+    (tie.spec invariant-loop decreases-loop loop-holds sub-i add-get get-requires (λ c κs. search rules) thread-requires
+    loop-less
     loop-again same_length returns)

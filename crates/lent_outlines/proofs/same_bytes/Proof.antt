@@ -15,5 +15,6 @@ decreases-loop a b count i₀ i-end i = i-end - i
 pub same_bytes_spec : {M : Type 1} → statement M
 same_bytes_spec =
     tie.close
-    (tie.spec invariant-loop decreases-loop (λ c κs. tt) (λ c. search rules) (λ c. search rules) (λ c. search rules) (λ c. tt)
+    (tie.spec invariant-loop decreases-loop (λ c κs. tt) (λ c. search rules) (λ c. search rules) (λ c. search rules)
+    (λ c. tt)
     (λ c. omega arith) (λ c. omega arith) (λ c. search rules) (λ c. tt))

@@ -77,5 +77,6 @@ returns c =
 pub first_unsound_spec : {M : Type 1} → statement M
 first_unsound_spec =
     tie.close
-    (tie.spec invariant-loop decreases-loop loop-holds (λ c. omega arith) peak-from-requires scan-requires add-i loop-less loop-again
+    (tie.spec invariant-loop decreases-loop loop-holds (λ c. omega arith) peak-from-requires scan-requires add-i
+    loop-less loop-again
     (λ c κs. search rules) returns)

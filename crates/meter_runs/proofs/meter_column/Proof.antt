@@ -23,7 +23,7 @@ returns c =
           rw (to_z-of_z w64 c.hand_out.result (record { sfits = c.hand_out.type_inv }))
           (flat-bytes c.args.table.now flat.result.handed left.hands
           (rw c.cells_with.ensures at c.hand_out.ensures));
-      grid-after = left.grid-after;
+      grid_after = left.grid_after;
     }
 
 pub meter_column_spec : {M : Type 1} → statement M

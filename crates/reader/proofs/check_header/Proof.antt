@@ -29,13 +29,13 @@ returns c =
 is-miscounted-requires : tie.Need-is_miscounted-wrong-requires
 is-miscounted-requires c κs =
     let at_cells = c.before.before in
-    let at-good = c.before.before.before.before.before in
+    let at-good = at_cells.before.before.before in
     ((known at-good).0, (omega (arith, (known at-good).1, cells_is at_cells), omega arith))
 
 returns-2 : tie.Need-returns
 returns-2 c =
     let at_cells = c.before.before.before.before.before.before.before in
-    let at-good = c.before.before.before.before.before.before.before.before.before.before in
+    let at-good = at_cells.before.before.before in
     header_made (file at-good) c.check_file_grid-checked.ensures
     (c.is_miscounted-wrong.ensures
     ∙ ap₂ (miscounted (file at-good)) (cells_is at_cells) (c.index.ensures ∙ c.get-3.ensures))
@@ -45,7 +45,8 @@ returns-2 c =
 pub check_header_spec : {M : Type 1} → statement M
 check_header_spec =
     tie.close
-    (tie.spec (λ c κs. search rules) (λ c. search rules) returns (λ c. search rules) (λ c κs. omega (arith, (known c).0))
+    (tie.spec (λ c κs. search rules) (λ c. search rules) returns (λ c. search rules)
+    (λ c κs. omega (arith, (known c).0))
     (λ c κs. omega (arith, (known c.before).0)) (λ c κs. search rules)
     (λ c κs. omega (arith, (known c.before.before.before).0)) (λ c κs. search rules) is-miscounted-requires
     (λ c κs. omega (arith, (known c.before.before.before.before.before.before).0)) (λ c κs. search rules)

@@ -38,14 +38,16 @@ peaks-is : (c : tie.After-index-n) → c.index-n.result ≡ peaks_in (file (at-g
 peaks-is c = c.index-n.ensures ∙ c.get-peaks.ensures
 
 first : (c : tie.After-first_unsound_in-unsound) → let f = file (at-good c.before) in
-    FirstUnsound (heights_in f (cells_in f)) (records_from f (cells_in f) (peaks_in f)) c.first_unsound_in-unsound.result
+    FirstUnsound (heights_in f (cells_in f)) (records_from f (cells_in f) (peaks_in f))
+    c.first_unsound_in-unsound.result
 first c = rw (← cells_is c.before, ← peaks-is c.before) c.first_unsound_in-unsound.ensures
 
 abbrev at_first : tie.After-then_test-checked-3 → tie.After-first_unsound_in-unsound
 at_first c = c.before.before.before.before.before
 
 made : (c : tie.After-then_test-checked-3) → let at = at-good (at_first c).before in let a = (start at).args in
-    c.then_test-checked-3.result ≡ first_of (read_tests (file at) a.heights a.table (at_first c).first_unsound_in-unsound.result)
+    c.then_test-checked-3.result ≡ first_of (read_tests (file at) a.heights a.table
+    (at_first c).first_unsound_in-unsound.result)
 made c =
     let at-index = (at_first c).before in
     let at = at-good at-index in

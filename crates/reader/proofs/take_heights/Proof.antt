@@ -83,5 +83,6 @@ returns c =
 pub take_heights_spec : {M : Type 1} → statement M
 take_heights_spec =
     tie.close
-    (tie.spec invariant-loop decreases-loop loop-holds add-get get-requires (λ c κs. search rules) mul-t9 slice-set-from-heights add-i
+    (tie.spec invariant-loop decreases-loop loop-holds add-get get-requires (λ c κs. search rules) mul-t9
+    slice-set-from-heights add-i
     loop-less loop-again same_length returns)

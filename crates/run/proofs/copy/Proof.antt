@@ -73,5 +73,6 @@ returns c =
 pub copy_spec : {M : Type 1} → statement M
 copy_spec =
     tie.close
-    (tie.spec invariant-loop decreases-loop loop-holds mul-grid shared-slice-copy-out-grid add-t9 mul-t10 slice-set-from-grid add-i
+    (tie.spec invariant-loop decreases-loop loop-holds mul-grid shared-slice-copy-out-grid add-t9 mul-t10
+    slice-set-from-grid add-i
     loop-less loop-again same_length returns)

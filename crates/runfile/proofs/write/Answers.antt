@@ -1,5 +1,5 @@
--- `write` meets its contract: what `put_grid` leaves takes the records, and then the room holds the file, or what it held
--- before. Assumes nothing.
+-- `write` meets its contract: what `put_grid` leaves takes the records, and then the room holds the file, or what it
+-- held before. Assumes nothing.
 use Rattle.std.proofs.Common.{◌∙◌, ap, ℕ, length}
 use Rattle.sound.proofs.Scans.{first-few}
 use Rattle.writer.specs.Inner.{laid}

@@ -12,5 +12,6 @@ decreases-loop trial start end n₀ n = end - n
 pub some_spec : {M : Type 1} → statement M
 some_spec =
     tie.close
-    (tie.spec invariant-loop decreases-loop (λ c. tt) (λ c κs. tt) (λ c. tt) (λ c. omega arith) (λ c. omega arith) (λ c. tt)
+    (tie.spec invariant-loop decreases-loop (λ c. tt) (λ c κs. tt) (λ c. tt) (λ c. omega arith) (λ c. omega arith)
+    (λ c. tt)
     (λ c. tt))

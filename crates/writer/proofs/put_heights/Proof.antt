@@ -109,5 +109,6 @@ returns c =
 pub put_heights_spec : {M : Type 1} → statement M
 put_heights_spec =
     tie.close
-    (tie.spec invariant-loop decreases-loop loop-holds add-put-word mul-bits shared-slice-copy-out-bits (λ c κs. search rules)
+    (tie.spec invariant-loop decreases-loop loop-holds add-put-word mul-bits shared-slice-copy-out-bits
+    (λ c κs. search rules)
     put-word-requires add-i loop-less loop-again same_length returns)

@@ -51,5 +51,6 @@ returns c =
 pub lay_records_spec : {M : Type 1} → statement M
 lay_records_spec =
     tie.close
-    (tie.spec invariant-loop decreases-loop loop-holds (λ c. omega arith) record-at-requires put-peak-requires (λ c. omega arith)
+    (tie.spec invariant-loop decreases-loop loop-holds (λ c. omega arith) record-at-requires put-peak-requires
+    (λ c. omega arith)
     (λ c. omega arith) loop-again same_length returns)

@@ -13,5 +13,6 @@ decreases-loop room start i₀ i-end i = i-end - i
 pub bytes_kept_spec : {M : Type 1} → statement M
 bytes_kept_spec =
     tie.close
-    (tie.spec invariant-loop decreases-loop (λ c. tt) (λ c. omega arith) (λ c. tt) (λ c. omega arith) (λ c. omega arith) (λ c. tt)
+    (tie.spec invariant-loop decreases-loop (λ c. tt) (λ c. omega arith) (λ c. tt) (λ c. omega arith) (λ c. omega arith)
+    (λ c. tt)
     (λ c. tt))

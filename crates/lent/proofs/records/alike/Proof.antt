@@ -13,5 +13,6 @@ decreases-loop whole count parts total numbers i₀ i = count - i
 pub alike_spec : {M : Type 1} → statement M
 alike_spec =
     tie.close
-    (tie.spec invariant-loop decreases-loop (λ c. tt) (λ c. tt) (λ c. tt) (λ c κs. tt) (λ c. tt) (λ c. omega arith) (λ c. omega arith)
+    (tie.spec invariant-loop decreases-loop (λ c. tt) (λ c. tt) (λ c. tt) (λ c κs. tt) (λ c. tt) (λ c. omega arith)
+    (λ c. omega arith)
     (λ c. tt) (λ c. tt))

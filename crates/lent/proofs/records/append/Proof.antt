@@ -13,4 +13,5 @@ decreases-loop batch count parts₀ total next₀ i₀ parts next i = count - i
 pub append_spec : {M : Type 1} → statement M
 append_spec =
     tie.close
-    (tie.spec invariant-loop decreases-loop (λ c. tt) (λ c κs. tt) (λ c. omega arith) (λ c. omega arith) (λ c. tt) (λ c. tt))
+    (tie.spec invariant-loop decreases-loop (λ c. tt) (λ c κs. tt) (λ c. omega arith) (λ c. omega arith) (λ c. tt)
+    (λ c. tt))

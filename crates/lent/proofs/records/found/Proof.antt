@@ -13,5 +13,6 @@ decreases-loop whole i parts total numbers j₀ j = total - j
 pub found_spec : {M : Type 1} → statement M
 found_spec =
     tie.close
-    (tie.spec invariant-loop decreases-loop (λ c. tt) (λ c κs. tt) (λ c κs. tt) (λ c κs. tt) (λ c. tt) (λ c. omega arith)
+    (tie.spec invariant-loop decreases-loop (λ c. tt) (λ c κs. tt) (λ c κs. tt) (λ c κs. tt) (λ c. tt)
+    (λ c. omega arith)
     (λ c. omega arith) (λ c. tt) (λ c. tt))

@@ -13,5 +13,6 @@ decreases-loop row count out₀ i₀ out i = count - i
 pub copy_spec : {M : Type 1} → statement M
 copy_spec =
     tie.close
-    (tie.spec invariant-loop decreases-loop (λ c. tt) (λ c κs. tt) (λ c κs. tt) (λ c. omega arith) (λ c. omega arith) (λ c. tt)
+    (tie.spec invariant-loop decreases-loop (λ c. tt) (λ c κs. tt) (λ c κs. tt) (λ c. omega arith) (λ c. omega arith)
+    (λ c. tt)
     (λ c. tt))

@@ -13,5 +13,6 @@ decreases-loop a b i₀ i = 64 - i
 pub same_rows_spec : {M : Type 1} → statement M
 same_rows_spec =
     tie.close
-    (tie.spec invariant-loop decreases-loop (λ c. tt) (λ c κs. tt) (λ c κs. tt) (λ c κs. tt) (λ c. tt) (λ c. omega arith)
+    (tie.spec invariant-loop decreases-loop (λ c. tt) (λ c κs. tt) (λ c κs. tt) (λ c κs. tt) (λ c. tt)
+    (λ c. omega arith)
     (λ c. omega arith) (λ c. tt) (λ c. tt))

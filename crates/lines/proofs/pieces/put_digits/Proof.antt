@@ -25,7 +25,8 @@ loop-holds c =
 -- ---- a turn
 
 -- two digits are left at least
-left : (c : tie.In-loop-rest invariant-loop decreases-loop) → c.before.before.before.args.at + 1 < c.before.loop-rest.place
+left : (c : tie.In-loop-rest invariant-loop decreases-loop) → c.before.before.before.args.at + 1
+    < c.before.loop-rest.place
 left c = place-two c.loop-rest.invariant (omega (arith, c.loop-rest-test.true))
 
 sub-place : tie.Need-overflow_sub-place invariant-loop decreases-loop
@@ -50,7 +51,8 @@ loop-again : tie.Need-loop-rest-preserved invariant-loop decreases-loop
 loop-again c =
     let at-digit = c.before in
     let at_test = at-digit.before in
-    digits-pair at_test.loop-rest.invariant at_test.loop-rest-test.true at-digit.digit.ensures c.digit-in-loop-rest.ensures
+    digits-pair at_test.loop-rest.invariant at_test.loop-rest-test.true at-digit.digit.ensures
+    c.digit-in-loop-rest.ensures
 
 -- ---- the last two digits
 

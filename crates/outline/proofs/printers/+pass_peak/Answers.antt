@@ -79,12 +79,12 @@ line-left t c more =
     (peak-first a.work.now a.n a.depth c.narrow-cell.ensures c.get-level.ensures (a.left - 1) (deeper a.left more))
 
 -- .. and after the line its passes
-passes-left : (t : ℕ) (c : peak-After-peak_line-place t) →
+passes_left : (t : ℕ) (c : peak-After-peak_line-place t) →
     let a = c.args in
     Left a.text.now a.write a.at (peak_print a.work.now a.n a.left a.depth a.q)
     c.peak_line-place.new.text c.peak_line-place.result
     (each (pass_text a.work.now a.n (a.left - 1) a.depth) (passes_in a.work.now a.n a.q))
-passes-left t c =
+passes_left t c =
     left_step (peak_line _ _ _ 0) _
     (line-left t (goal.at.peak-After-peak_line-place t c).After-get-level c.if-left-eq0.false)
     c.peak_line-place.ensures
@@ -97,7 +97,7 @@ peak-peak_line-place-requires t c =
 pub peak-loop-x-init : goal.peak-loop-x-init
 peak-loop-x-init t c =
     passing-start (deeper c.args.left c.if-left-eq0.false) c.requires.linked (c.index-x.ensures ∙ c.get.ensures)
-    (left-fits-last (passes-left t (goal.at.peak-loop-x-init t c).After-peak_line-place))
+    (left-fits-last (passes_left t (goal.at.peak-loop-x-init t c).After-peak_line-place))
 
 pub peak-pass-place-requires : goal.peak-pass-place-requires
 peak-pass-place-requires t c =
@@ -117,5 +117,5 @@ peak-loop-x-preserved t c =
 
 pub peak-returns : goal.peak-returns
 peak-returns t c =
-    left-last (passes-left t (goal.at.peak-returns t c).After-peak_line-place)
+    left-last (passes_left t (goal.at.peak-returns t c).After-peak_line-place)
     (passing-done c.loop-x.invariant c.loop-x-test.false)

@@ -1,6 +1,6 @@
 -- `pass` and `peak` each have a loop along a chain, in which they call one another. The measure of a loop is what is
--- left of its chain. The peaks of a pass have as many levels below them as the pass is told, and the passes under a peak
--- are told one less than the peak: so the measure is twice the levels for `peak`, and one more for `pass`.
+-- left of its chain. The peaks of a pass have as many levels below them as the pass is told, and the passes under a
+-- peak are told one less than the peak: so the measure is twice the levels for `peak`, and one more for `pass`.
 use Rattle.std.proofs.Common.{◌+◌, ◌-◌}
 use Rattle.area.specs.Area.{parent_in, pass_in}
 use Rattle.outline.proofs.Chains.{steps}

@@ -91,6 +91,7 @@ returns c =
 pub count_children_spec : {M : Type 1} → statement M
 count_children_spec =
     tie.close
-    (tie.spec invariant-loop decreases-loop (λ c. omega arith) (λ c. omega arith) (λ c κs. omega arith) (λ c κs. search rules)
+    (tie.spec invariant-loop decreases-loop (λ c. omega arith) (λ c. omega arith) (λ c κs. omega arith)
+    (λ c κs. search rules)
     loop-holds count-peaks-requires add-count (λ c. omega arith) (λ c. omega arith) (λ c κs. omega arith)
     (λ c κs. search rules) loop-less loop-again returns)

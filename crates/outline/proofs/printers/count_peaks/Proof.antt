@@ -52,6 +52,7 @@ returns c = omega (arith, going_done c.loop-p.invariant c.loop-p-test.false)
 pub count_peaks_spec : {M : Type 1} → statement M
 count_peaks_spec =
     tie.close
-    (tie.spec invariant-loop decreases-loop (λ c. omega arith) (λ c. omega arith) (λ c κs. omega arith) (λ c κs. search rules)
+    (tie.spec invariant-loop decreases-loop (λ c. omega arith) (λ c. omega arith) (λ c κs. omega arith)
+    (λ c κs. search rules)
     loop-holds add-count (λ c. omega arith) (λ c. omega arith) (λ c κs. omega arith) (λ c κs. search rules) loop-less
     loop-again returns)

@@ -75,5 +75,6 @@ returns-2 c =
 pub first_unsound_in_spec : {M : Type 1} → statement M
 first_unsound_in_spec =
     tie.close
-    (tie.spec invariant-loop decreases-loop loop-holds record-from-requires is-sound-in-requires returns (λ c κs. search rules) add-i
+    (tie.spec invariant-loop decreases-loop loop-holds record-from-requires is-sound-in-requires returns
+    (λ c κs. search rules) add-i
     loop-less loop-again returns-2)

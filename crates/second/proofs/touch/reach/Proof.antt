@@ -13,5 +13,6 @@ decreases-loop near allowed from set₀ counter₀ set counter = 64 - counter
 pub reach_spec : {M : Type 1} → statement M
 reach_spec =
     tie.close
-    (tie.spec invariant-loop decreases-loop (λ c. tt) (λ c κs. tt) (λ c. tt) (λ c. omega arith) (λ c. omega arith) (λ c. tt)
+    (tie.spec invariant-loop decreases-loop (λ c. tt) (λ c κs. tt) (λ c. tt) (λ c. omega arith) (λ c. omega arith)
+    (λ c. tt)
     (λ c. tt))

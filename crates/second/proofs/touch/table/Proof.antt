@@ -13,5 +13,6 @@ decreases-loop rows cells near₀ cell₀ near cell = 64 - cell
 pub table_spec : {M : Type 1} → statement M
 table_spec =
     tie.close
-    (tie.spec invariant-loop decreases-loop (λ c. tt) (λ c κs. tt) (λ c. omega arith) (λ c. omega arith) (λ c. omega arith)
+    (tie.spec invariant-loop decreases-loop (λ c. tt) (λ c κs. tt) (λ c. omega arith) (λ c. omega arith)
+    (λ c. omega arith)
     (λ c. omega arith) (λ c. tt) (λ c. tt))

@@ -13,5 +13,6 @@ decreases-loop set row₀ cell₀ row cell = 64 - cell
 pub in_order_spec : {M : Type 1} → statement M
 in_order_spec =
     tie.close
-    (tie.spec invariant-loop decreases-loop (λ c κs. tt) (λ c. tt) (λ c κs. tt) (λ c. omega arith) (λ c κs. tt) (λ c. omega arith)
+    (tie.spec invariant-loop decreases-loop (λ c κs. tt) (λ c. tt) (λ c κs. tt) (λ c. omega arith) (λ c κs. tt)
+    (λ c. omega arith)
     (λ c. omega arith) (λ c. tt) (λ c. tt))

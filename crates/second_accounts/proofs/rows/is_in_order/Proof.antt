@@ -13,5 +13,6 @@ decreases-loop row set left₀ i₀ i-end left i = i-end - i
 pub is_in_order_spec : {M : Type 1} → statement M
 is_in_order_spec =
     tie.close
-    (tie.spec invariant-loop decreases-loop (λ c. tt) (λ c κs. tt) (λ c κs. tt) (λ c. tt) (λ c κs. tt) (λ c. tt) (λ c κs. tt)
+    (tie.spec invariant-loop decreases-loop (λ c. tt) (λ c κs. tt) (λ c κs. tt) (λ c. tt) (λ c κs. tt) (λ c. tt)
+    (λ c κs. tt)
     (λ c. omega arith) (λ c. omega arith) (λ c. tt) (λ c. tt))

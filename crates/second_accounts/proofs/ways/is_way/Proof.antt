@@ -13,5 +13,6 @@ decreases-loop near allowed from goal row next₀ last₀ i₀ i-end next last i
 pub is_way_spec : {M : Type 1} → statement M
 is_way_spec =
     tie.close
-    (tie.spec invariant-loop decreases-loop (λ c κs. tt) (λ c. tt) (λ c κs. tt) (λ c κs. tt) (λ c. tt) (λ c κs. tt) (λ c κs. tt)
+    (tie.spec invariant-loop decreases-loop (λ c κs. tt) (λ c. tt) (λ c κs. tt) (λ c κs. tt) (λ c. tt) (λ c κs. tt)
+    (λ c κs. tt)
     (λ c. omega arith) (λ c. omega arith) (λ c. tt) (λ c κs. tt) (λ c. tt))

@@ -13,5 +13,6 @@ decreases-loop near allowed cell goal set₀ counter₀ set counter = 64 - count
 pub nearer_spec : {M : Type 1} → statement M
 nearer_spec =
     tie.close
-    (tie.spec invariant-loop decreases-loop (λ c κs. tt) (λ c. tt) (λ c κs. tt) (λ c κs. tt) (λ c. tt) (λ c. omega arith)
+    (tie.spec invariant-loop decreases-loop (λ c κs. tt) (λ c. tt) (λ c κs. tt) (λ c κs. tt) (λ c. tt)
+    (λ c. omega arith)
     (λ c. omega arith) (λ c. tt) (λ c. tt))

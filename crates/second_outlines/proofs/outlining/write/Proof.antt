@@ -13,5 +13,6 @@ decreases-loop heights listed links levels out₀ place₀ end₀ counter₀ out
 pub write_spec : {M : Type 1} → statement M
 write_spec =
     tie.close
-    (tie.spec invariant-loop decreases-loop (λ c κs. tt) (λ c. tt) (λ c. tt) (λ c κs. tt) (λ c κs. tt) (λ c. omega arith)
+    (tie.spec invariant-loop decreases-loop (λ c κs. tt) (λ c. tt) (λ c. tt) (λ c κs. tt) (λ c κs. tt)
+    (λ c. omega arith)
     (λ c. omega arith) (λ c. tt) (λ c. tt))

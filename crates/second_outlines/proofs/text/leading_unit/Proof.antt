@@ -1,5 +1,5 @@
--- `second_outlines::text::leading_unit` is safe and ends: the unit is never 0, so that ten times the unit is more, and it stays
--- at or below the number. Assumes nothing.
+-- `second_outlines::text::leading_unit` is safe and ends: the unit is never 0, so that ten times the unit is more,
+-- and it stays at or below the number. Assumes nothing.
 use Prim.Native.Nat.{◌-◌, ◌<◌}
 use native.Mathlib.Omega.{arith}
 use Rattle.second_outlines.proofs.text.leading_unit.Statement.{statement}
@@ -14,4 +14,5 @@ decreases-loop n unit₀ unit = n - unit
 pub leading_unit_spec : {M : Type 1} → statement M
 leading_unit_spec =
     tie.close
-    (tie.spec invariant-loop decreases-loop (λ c. omega arith) (λ c. omega arith) (λ c. omega arith) (λ c. omega arith) (λ c. tt))
+    (tie.spec invariant-loop decreases-loop (λ c. omega arith) (λ c. omega arith) (λ c. omega arith) (λ c. omega arith)
+    (λ c. tt))

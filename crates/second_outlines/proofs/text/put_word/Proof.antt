@@ -13,5 +13,6 @@ decreases-loop out₀ end word at₀ i₀ i-end out at i = i-end - i
 pub put_word_spec : {M : Type 1} → statement M
 put_word_spec =
     tie.close
-    (tie.spec invariant-loop decreases-loop (λ c. tt) (λ c. omega arith) (λ c κs. tt) (λ c. omega arith) (λ c. omega arith)
+    (tie.spec invariant-loop decreases-loop (λ c. tt) (λ c. omega arith) (λ c κs. tt) (λ c. omega arith)
+    (λ c. omega arith)
     (λ c. tt) (λ c. tt))

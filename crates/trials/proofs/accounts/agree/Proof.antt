@@ -12,5 +12,6 @@ decreases-loop rows heights cell₀ cell = 41 - cell
 pub agree_spec : {M : Type 1} → statement M
 agree_spec =
     tie.close
-    (tie.spec invariant-loop decreases-loop (λ c. tt) (λ c κs. tt) (λ c κs. tt) (λ c. tt) (λ c. omega arith) (λ c. omega arith)
+    (tie.spec invariant-loop decreases-loop (λ c. tt) (λ c κs. tt) (λ c κs. tt) (λ c. tt) (λ c. omega arith)
+    (λ c. omega arith)
     (λ c. tt) (λ c. tt))

@@ -12,5 +12,6 @@ decreases-loop path seen₀ i₀ i-end seen i = i-end - i
 pub no_cell_twice_spec : {M : Type 1} → statement M
 no_cell_twice_spec =
     tie.close
-    (tie.spec invariant-loop decreases-loop (λ c. tt) (λ c κs. tt) (λ c κs. tt) (λ c. tt) (λ c. omega arith) (λ c. omega arith)
+    (tie.spec invariant-loop decreases-loop (λ c. tt) (λ c κs. tt) (λ c κs. tt) (λ c. tt) (λ c. omega arith)
+    (λ c. omega arith)
     (λ c. tt) (λ c. tt))

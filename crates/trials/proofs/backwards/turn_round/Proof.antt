@@ -12,5 +12,6 @@ decreases-loop heights other₀ cell₀ other cell = 40 - cell
 pub turn_round_spec : {M : Type 1} → statement M
 turn_round_spec =
     tie.close
-    (tie.spec invariant-loop decreases-loop (λ c. tt) (λ c κs. tt) (λ c. omega arith) (λ c. omega arith) (λ c. omega arith)
+    (tie.spec invariant-loop decreases-loop (λ c. tt) (λ c κs. tt) (λ c. omega arith) (λ c. omega arith)
+    (λ c. omega arith)
     (λ c. omega arith) (λ c. tt) (λ c. tt))

@@ -12,5 +12,6 @@ decreases-loop path next₀ i₀ i-end next i = i-end - i
 pub wandering_spec : {M : Type 1} → statement M
 wandering_spec =
     tie.close
-    (tie.spec invariant-loop decreases-loop (λ c κs. tt) (λ c κs. tt) (λ c κs. tt) (λ c κs. tt) (λ c κs. tt) (λ c. tt) (λ c κs. tt)
+    (tie.spec invariant-loop decreases-loop (λ c κs. tt) (λ c κs. tt) (λ c κs. tt) (λ c κs. tt) (λ c κs. tt) (λ c. tt)
+    (λ c κs. tt)
     (λ c κs. tt) (λ c. omega arith) (λ c. omega arith) (λ c. tt) (λ c. tt))

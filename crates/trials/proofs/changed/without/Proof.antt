@@ -12,5 +12,6 @@ decreases-loop row place next₀ i₀ i-end next i = i-end - i
 pub without_spec : {M : Type 1} → statement M
 without_spec =
     tie.close
-    (tie.spec invariant-loop decreases-loop (λ c κs. tt) (λ c. tt) (λ c κs. tt) (λ c κs. tt) (λ c. omega arith) (λ c. omega arith)
+    (tie.spec invariant-loop decreases-loop (λ c κs. tt) (λ c. tt) (λ c κs. tt) (λ c κs. tt) (λ c. omega arith)
+    (λ c. omega arith)
     (λ c. tt) (λ c. tt))
