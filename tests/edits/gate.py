@@ -27,7 +27,10 @@ AFTER = [[*MAKE, "-j3", "-Oline", "cpp-test", "built-peaks", "built-outlines"]]
 HEADER = re.compile(r"^# Refused at ((?:src|specs|proofs)/\S+): (\S+)$", re.M)
 TRIED = re.compile(r"^(?:rt: )?must-fail (\w+)/(\S+)\.edit: (.*)$")
 REFUSED = "refused, as it must be"
-PLACE = re.compile(r": (?:note: )?(?:\./)?((?:src|specs|proofs)/\S+?):(\d+):\d+: (?:error\S*: )?(?:`([^`]+)`)?")
+# A message that begins with `search` names no lemma.
+PLACE = re.compile(
+    r": (?:note: )?(?:\./)?((?:src|specs|proofs)/\S+?):(\d+):\d+: (?:error\S*: )?(?:`(?!search`)([^`]+)`)?"
+)
 FUNCTION = re.compile(r'\s*(?:pub(?:\([^)]*\))? )?(?:const )?(?:unsafe )?(?:extern "C" )?fn (\w+)')
 
 

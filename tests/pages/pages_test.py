@@ -85,7 +85,7 @@ for name in ("docs/PROMISES.md", "docs/MAP.md"):
     missing = {word for word in missing if "-" in word or not re.search(rf"\b(?:pub|fn) {word}\b", defined)}
     assert named and not missing, missing
     named = {tuple(word.split("::")) for word in quoted if re.fullmatch(r"[a-z]+::[a-z_]+", word)}
-    missing = {(crate, call) for crate, call in named if f"pub fn {call}(" not in code[crate]}
+    missing = {(crate, call) for crate, call in named if not re.search(rf"pub fn {call}[(<]", code[crate])}
     assert named and not missing, missing
 
 # The edit that CONTRIBUTING.md shows is one of them.

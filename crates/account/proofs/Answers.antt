@@ -4,8 +4,9 @@
 --     account-no-peak, account-short of a call refused by 17, and by 18
 --     account-made                   of one that does its work
 -- Assumes nothing.
+use Rattle.std.specs.Prelude.{Ok, Err}
 use mathlib.Core.Path.{◌≡◌, refl, sym, ◌∙◌, ap}
-use mathlib.Core.Bool.{Bool, true, false, not, cond, ◌||◌}
+use mathlib.Core.Bool.{Bool, true, false, cond, ◌||◌}
 use mathlib.Core.List.{List, [], ◌∷◌}
 use mathlib.Core.Logic.{◌↔◌}
 use Prim.Native.Nat.{ℕ, ◌*◌, ◌≤◌, ◌<◌}
@@ -24,55 +25,18 @@ use Rattle.relief.proofs.Shapes.{touch?, shape-terrain}
 use Rattle.relief.proofs.Survey.{peak?, peak-decides}
 use Rattle.record.specs.declared.Refusal.{Refusal}
 use Rattle.record.specs.declared.Refusal.TheVariants.{NoPeak, AccountRoom}
-use Rattle.record.specs.declared.Checked.TheVariants.{Good, Bad}
 use Rattle.record.specs.Refusals.{granted, first_of}
-use Rattle.record.proofs.Tests.{first-end, first-before, told-by, bad-not-good}
+use Rattle.record.proofs.Tests.{told-by, bad-not-good}
 use Rattle.area.specs.Area.{level_in}
 use Rattle.heights.specs.Grid.{grid_tests}
 use Rattle.heights.specs.Inner.{GoodGrid, Loaded}
 use Rattle.heights.proofs.Loads.{loaded-levels}
 use Rattle.table.proofs.Handed.{worked-early, worked-late}
 use Rattle.survey.specs.Answers.{KeyTold}
-use Rattle.account.specs.declared.Accounted.{Accounted}
-use Rattle.account.specs.declared.Accounted.TheVariants.{Refused}
-use Rattle.account.specs.Promises.{check_tests, account_tests, Accounts}
+use Rattle.account.specs.declared.Given.{Given}
+use Rattle.account.specs.Promises.{account_tests, Accounts}
 use Rattle.account.specs.Inner.{Drawable, Drew}
-
--- ---- the tests to 17
-
-module _ (rows cells work : ℕ) (peak : Bool) where
-  pub check-early : {r : Refusal} → first_of (grid_tests rows cells work) ≡ Bad r
-      → first_of (check_tests rows cells work peak) ≡ Bad r
-  unfolding check_tests
-  check-early bad = first-before (grid_tests rows cells work) ((not peak, NoPeak) ∷ []) bad
-
-  pub check-end : first_of (grid_tests rows cells work) ≡ Good
-      → first_of (check_tests rows cells work peak) ≡ cond (not peak) (Bad NoPeak) Good
-  unfolding check_tests
-  check-end good = first-end (grid_tests rows cells work) (not peak) NoPeak good
-
-  pub check-no-peak : first_of (grid_tests rows cells work) ≡ Good → peak ≡ false
-      → first_of (check_tests rows cells work peak) ≡ Bad NoPeak
-  check-no-peak good e = check-end good ∙ ap (λ (b : Bool). cond (not b) (Bad NoPeak) Good) e
-
-  pub check-good : first_of (grid_tests rows cells work) ≡ Good → peak ≡ true
-      → first_of (check_tests rows cells work peak) ≡ Good
-  check-good good e = check-end good ∙ ap (λ (b : Bool). cond (not b) (Bad NoPeak) Good) e
-
-  module _ (path island : ℕ) where
-    pub account-early : {r : Refusal} → first_of (check_tests rows cells work peak) ≡ Bad r
-        → first_of (account_tests rows cells work peak path island) ≡ Bad r
-    unfolding account_tests
-    account-early bad =
-        first-before (check_tests rows cells work peak) ((ltb path cells || ltb island cells, AccountRoom) ∷ []) bad
-
-    account-end : first_of (check_tests rows cells work peak) ≡ Good → {b : Bool}
-        → b ≡ (ltb path cells || ltb island cells)
-        → first_of (account_tests rows cells work peak path island) ≡ cond b (Bad AccountRoom) Good
-    unfolding account_tests
-    account-end good e =
-        first-end (check_tests rows cells work peak) (ltb path cells || ltb island cells) AccountRoom good
-        ∙ ap (λ (b : Bool). cond b (Bad AccountRoom) Good) (sym e)
+use Rattle.account.proofs.Tests.{check-early, check-no-peak, check-good, account-early, account-end}
 
 -- ---- a call refused before the work
 
@@ -89,8 +53,8 @@ module _ (rows : ℕ) (heights : List ℤ) (cell : ℕ) (work : List ℕ) where
   peak-told = (peak-decided.holds, passes peak-decided)
 
   pub account-refused : (path island : List ℕ) {left : List ℕ} {r : Refusal}
-      → first_of (grid_tests rows (length heights) (length work)) ≡ Bad r → left ≡ work
-      → Accounts rows heights cell work left path path island island (Refused r)
+      → first_of (grid_tests rows (length heights) (length work)) ≡ Err r → left ≡ work
+      → Accounts rows heights cell work left path path island island (Err r)
   account-refused path island {left} {r} bad same =
       let refused =
       account-early rows (length heights) (length work) peak-here (length path) (length island)
@@ -137,11 +101,20 @@ asked {rows} {heights} {cell} {p} {n} {r} {k} {work} {a} {left} en er ep loaded 
     }
 
 -- the level that is compared
-pub level-is : {rows : ℕ} {heights : List ℤ} {cell : ℕ} {work left : List ℕ} {k : ℕ}
+level-is : {rows : ℕ} {heights : List ℤ} {cell : ℕ} {work left : List ℕ} {k : ℕ}
     → Asked rows heights cell work left k → {n p l : ℕ} → n ≡ length heights → p ≡ cell
     → l ≡ cut n (level_in left) p → l ≡ levels heights cell
 level-is {heights = heights} {left = left} h {n} {p} en ep e =
     e ∙ ap (λ (m : ℕ). cut m (level_in left) p) en ∙ ap (λ (M : ℕ → ℕ). M p) h.levels_in ∙ ap (levels heights) ep
+
+-- the test whether it is at most k
+module _ {rows : ℕ} {heights : List ℤ} {cell : ℕ} {work left : List ℕ} {k : ℕ} (h : Asked rows heights cell work left k)
+    {n p l : ℕ} (en : n ≡ length heights) (ep : p ≡ cell) (e : l ≡ cut n (level_in left) p) where
+  pub level-low : l ≤ k → levels heights cell ≤ k
+  level-low i = let m = level-is h en ep e in omega arith
+
+  pub level-high : k < l → k < levels heights cell
+  level-high i = let m = level-is h en ep e in omega arith
 
 module _ {rows : ℕ} {heights : List ℤ} {cell : ℕ} {work left : List ℕ} {k : ℕ} (path island : List ℕ)
     (g : GoodGrid rows (length heights) (length work)) (h : Asked rows heights cell work left k) where
@@ -153,8 +126,8 @@ module _ {rows : ℕ} {heights : List ℤ} {cell : ℕ} {work left : List ℕ} {
 
   -- 17 or 18, behind the work
   account-late : {r : Refusal}
-      → first_of (account_tests rows (length heights) (length work) here (length path) (length island)) ≡ Bad r
-      → Accounts rows heights cell work left path path island island (Refused r)
+      → first_of (account_tests rows (length heights) (length work) here (length path) (length island)) ≡ Err r
+      → Accounts rows heights cell work left path path island island (Err r)
   account-late bad = record {
     peak = here;
     told = told;
@@ -170,7 +143,7 @@ module _ {rows : ℕ} {heights : List ℤ} {cell : ℕ} {work left : List ℕ} {
   }
 
   pub account-no-peak : levels heights cell ≤ k
-      → Accounts rows heights cell work left path path island island (Refused NoPeak)
+      → Accounts rows heights cell work left path path island island (Err NoPeak)
   account-no-peak l =
       account-late (account-early rows (length heights) (length work) here (length path) (length island)
       (check-no-peak rows (length heights) (length work) here g.good
@@ -180,14 +153,14 @@ module _ {rows : ℕ} {heights : List ℤ} {cell : ℕ} {work left : List ℕ} {
   module _ (above : k < levels heights cell) {short : Bool}
       (e : short ≡ (ltb (length path) (length heights) || ltb (length island) (length heights))) where
     decided : first_of (account_tests rows (length heights) (length work) here (length path) (length island))
-        ≡ cond short (Bad AccountRoom) Good
+        ≡ cond short (Err AccountRoom) (Ok tt)
     decided =
         account-end rows (length heights) (length work) here (length path) (length island)
         (check-good rows (length heights) (length work) here g.good (told.1 (h.peak above))) e
 
     pub account-short : short ≡ true
-        → Accounts rows heights cell work left path path island island (Refused AccountRoom)
-    account-short t = account-late (decided ∙ ap (λ (b : Bool). cond b (Bad AccountRoom) Good) t)
+        → Accounts rows heights cell work left path path island island (Err AccountRoom)
+    account-short t = account-late (decided ∙ ap (λ (b : Bool). cond b (Err AccountRoom) (Ok tt)) t)
 
     -- what drawing the account asks
     pub account-drawable : short ≡ false → {n r p : ℕ} → n ≡ length heights → r ≡ rows → p ≡ cell
@@ -210,10 +183,10 @@ module _ {rows : ℕ} {heights : List ℤ} {cell : ℕ} {work left : List ℕ} {
         })
 
     pub account-made : short ≡ false → {n r p : ℕ} → n ≡ length heights → r ≡ rows → p ≡ cell
-        → {end path' island' : List ℕ} {a : Accounted} → Drew r left end n p path path' island island' a
-        → Accounts rows heights cell work end path path' island island' a
+        → {end path' island' : List ℕ} {a : Given} → Drew r left end n p path path' island island' a
+        → Accounts rows heights cell work end path path' island island' (Ok a)
     account-made f {n} {r} {p} en er ep {end} {path'} {island'} {a} d =
-        let passed = decided ∙ ap (λ (b : Bool). cond b (Bad AccountRoom) Good) f in
+        let passed = decided ∙ ap (λ (b : Bool). cond b (Err AccountRoom) (Ok tt)) f in
         record {
           peak = here;
           told = told;

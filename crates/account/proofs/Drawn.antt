@@ -26,7 +26,6 @@ use Rattle.words.proofs.Laws.{Bytes, bytes-beyond}
 use Rattle.record.specs.Refusals.{granted}
 use Rattle.area.specs.Area.{level_in}
 use Rattle.drawing.specs.Drawing.{Drawing, DrawnIsland, DrawnPath, PathTo}
-use Rattle.account.specs.declared.Accounted.TheVariants.{Given}
 use Rattle.account.specs.Inner.{Drawable, Drew}
 
 -- bytes behind the work area stay where its numbers do
@@ -77,15 +76,8 @@ module _ {rows : ℕ} {s : List ℕ} {n p k : ℕ} {path island : List ℕ} (w :
             (cut-equal n (level_in b) (level_in s) h.front) o in
             own_of terrain w.peak (w.some l) o'.inside o'.best o'.way h.order
 
-    pub drawn-few : (steps < 4294967296) × (cells < 4294967296)
-    drawn-few =
-        let f = w.area.few in
-        let l = q.few in
-        let m = h.few in
-        (omega arith, omega arith)
-
     pub drew : {key : ℤ} {u v : ℕ} → level_of key ≡ k → SFits w32 key → u ≡ steps → v ≡ cells → Bytes s → Bytes t
-        → Drew rows s t n p path path' island island' (Given key u v)
+        → Drew rows s t n p path path' island island' (record { key = key; path = u; island = v })
     drew ek fits eu ev bs bt = record {
       key = k;
       way = q.cells;

@@ -6,6 +6,7 @@
 --                                      inputs, and all of the work area but the bytes that it uses
 --     Checks                           the promise of the check: it determines the answer, and of the work area as much
 -- Assumes nothing.
+use Rattle.std.specs.Prelude.{Result, Ok, Err}
 use Rattle.std.specs.Prelude.{◌≡◌, Bool, true, not, cond, ◌||◌, List, [], ◌∷◌, ◌++◌, ◌↔◌, ℕ, ltb, ℤ, length, drop}
 use Rattle.std.specs.Int.{w32}
 use Rattle.std.proofs.Common.{SFits}
@@ -15,29 +16,25 @@ use Rattle.relief.specs.Plane.{plane_of, touch_of}
 use Rattle.relief.specs.Accounts.{Account, OwnAccount}
 use Rattle.record.specs.declared.Refusal.{Refusal}
 use Rattle.record.specs.declared.Refusal.TheVariants.{NoPeak, AccountRoom}
-use Rattle.record.specs.declared.Checked.TheVariants.{Good}
 use Rattle.record.specs.Refusals.{Told, granted, told_of, first_of, told_by}
 use Rattle.heights.specs.Grid.{grid_tests}
 use Rattle.table.specs.Promises.{Worked}
-use Rattle.account.specs.declared.Accounted.{Accounted}
-use Rattle.account.specs.declared.Accounted.TheVariants as Account
-use Rattle.account.specs.declared.Verdict.{Verdict}
+use Rattle.account.specs.declared.Given.{Given}
 
 -- The level of the key height, 0 for none, and how many cells path and island have.
-abbrev pub accounted_told : Accounted → Told
-accounted_told (Account.Given key path island) = granted (level_of key ∷ path ∷ island ∷ [])
-accounted_told (Account.Refused r) = told_of r
+abbrev pub accounted_told : Result Given Refusal → Told
+accounted_told (Ok a) = granted (level_of a.key ∷ a.path ∷ a.island ∷ [])
+accounted_told (Err r) = told_of r
 
 -- 1 for yes, 0 for no
-abbrev pub verdict_told : Verdict → Told
-verdict_told Verdict.Yes = granted (1 ∷ [])
-verdict_told Verdict.No = granted (0 ∷ [])
-verdict_told (Verdict.Refused r) = told_of r
+abbrev pub verdict_told : Result Bool Refusal → Told
+verdict_told (Ok good) = granted (cond good 1 0 ∷ [])
+verdict_told (Err r) = told_of r
 
 -- A key height in an answer is a signed 32-bit number; of those one has a given level (`LevelInjective` of `scale`).
-abbrev pub key_fits : Accounted → Type 0
-key_fits (Account.Given key path island) = SFits w32 key
-key_fits (Account.Refused r) = Unit {0}
+abbrev pub key_fits : Result Given Refusal → Type 0
+key_fits (Ok a) = SFits w32 a.key
+key_fits (Err r) = Unit {0}
 
 -- "order 1, 2, 3, 4, 17, 18, the check's to 17". `work` is a length; `peak` says whether the cell is a peak's.
 unfoldable pub check_tests : ℕ → ℕ → ℕ → Bool → List (Bool × Refusal)
@@ -53,20 +50,20 @@ account_tests rows cells work peak path island =
     ++ ((ltb path cells || ltb island cells, AccountRoom) ∷ [])
 
 -- "A refusal [..] writes nothing"; "other lent numbers beyond those counted stay as they were."
-abbrev pub row_after : Accounted → List ℕ → List ℕ → List ℕ
-row_after (Account.Given key path island) cells row = cells ++ drop (length cells) row
-row_after (Account.Refused r) cells row = row
+abbrev pub row_after : Result Given Refusal → List ℕ → List ℕ → List ℕ
+row_after (Ok a) cells row = cells ++ drop (length cells) row
+row_after (Err r) cells row = row
 
 -- The heights are lent to be read.
 pub record Accounts (rows : ℕ) (heights : List ℤ) (cell : ℕ) (work work' path path' island island' : List ℕ)
-    (answer : Accounted) : Type 0 where
+    (answer : Result Given Refusal) : Type 0 where
   pub peak : Bool
   pub told : (peak ≡ true) ↔ Peak (touch_of (plane_of rows)) (levels heights) cell
   pub key : ℕ
   pub way : List ℕ
   pub isle : List ℕ
   -- the account, where nothing refuses
-  pub right : first_of (account_tests rows (length heights) (length work) peak (length path) (length island)) ≡ Good
+  pub right : first_of (account_tests rows (length heights) (length work) peak (length path) (length island)) ≡ Ok tt
       → OwnAccount (touch_of (plane_of rows)) (levels heights) cell key way isle
   pub answered : accounted_told answer
       ≡ told_by (account_tests rows (length heights) (length work) peak (length path) (length island))
@@ -78,11 +75,11 @@ pub record Accounts (rows : ℕ) (heights : List ℤ) (cell : ℕ) (work work' p
 
 -- "A small check accepts any such account from any source, and no other". Heights, path and island are lent to be read.
 pub record Checks (rows : ℕ) (heights : List ℤ) (cell : ℕ) (key : ℤ) (path island work work' : List ℕ)
-    (answer : Verdict) : Type 0 where
+    (answer : Result Bool Refusal) : Type 0 where
   pub peak : Bool
   pub told : (peak ≡ true) ↔ Peak (touch_of (plane_of rows)) (levels heights) cell
   pub good : Bool
-  pub judged : first_of (check_tests rows (length heights) (length work) peak) ≡ Good
+  pub judged : first_of (check_tests rows (length heights) (length work) peak) ≡ Ok tt
       → (good ≡ true) ↔ Account (touch_of (plane_of rows)) (levels heights) cell (level_of key) path island
   pub answered : verdict_told answer
       ≡ told_by (check_tests rows (length heights) (length work) peak) (granted (cond good 1 0 ∷ []))

@@ -1,59 +1,34 @@
 -- What the check finds. A peak whose account has the key height k is above k and the best of its island, so where the
 -- flood at k + 1 tells that it is not, there is no account with k. Where it is, it is a peak's cell, and the row of the
 -- reached cells is its island: an account of it is just that row, and a path that leads out or, for k = 0, none.
---     auditing-behind                  what the check asks holds behind a flood, too
---     path-none                        whether a path has no cell
 --     found-outside, -none             the cell is no peak's
---     found-peak, -other, -account     it is, and this is no account of it, or is one
+--     found-peak, found-account        it is, and this is no account of it, or the row decides
 -- Assumes nothing.
-use mathlib.Core.Path.{◌≡◌, refl, sym, ap, subst}
+use mathlib.Core.Path.{◌≡◌, sym, subst}
 use mathlib.Core.Bool.{Bool, true, false}
-use mathlib.Core.List.{List, [], ◌∷◌}
+use mathlib.Core.List.{List}
 use Prim.Native.Nat.{ℕ, ◌≤◌, ◌<◌}
 use native.Mathlib.Omega.{arith}
-use lib.Dec.{eqb}
-use lib.ListN.{length}
+use Rattle.std.proofs.Common.{None, Some}
 use Rattle.relief.specs.Peaks.{Peak, Island}
 use Rattle.relief.specs.Accounts.{InOrder, Account}
 use Rattle.relief.specs.Inner.{Decides, cut, Best}
-use Rattle.relief.proofs.Tests.{decides-iff, eq-decides}
+use Rattle.relief.proofs.Tests.{decides-iff, refuted}
 use Rattle.relief.proofs.Levels.{cut_below, cut-behind, cut-equal}
 use Rattle.relief.proofs.Flats.{Terrain}
 use Rattle.relief.proofs.Keys.{peak-of-best}
 use Rattle.relief.proofs.Rows.{order-row-unique}
 use Rattle.relief.proofs.Accounts.{account-below, account-best, account-of-best}
 use Rattle.area.specs.Area.{level_in}
-use Rattle.audit.specs.declared.Finding.TheVariants as Find
-use Rattle.audit.specs.Audit.{Auditing, Behind, PeakTold, Judges}
+use Rattle.audit.specs.Audit.{PeakTold, Judges}
 use Rattle.audit.specs.Inner.{Crested, Rowed}
 use Rattle.audit.proofs.Tops.{behind-same, behind-trans}
 use Rattle.flood.proofs.Reached.{reached-region}
 
--- ---- behind a flood
-
-pub auditing-behind : {s t : List ℕ} {n rows : ℕ} → Auditing s n rows → Behind s t n → Auditing t n rows
-auditing-behind h b =
-    let e = b.len in
-    let r = h.area.room in
-    record {
-      area = record { few = h.area.few; room = omega arith };
-      rows_some = h.rows_some;
-      rows_few = h.rows_few;
-    }
-
--- ---- a path without a cell
-
-pub path-none : (path : List ℕ) → Decides (path ≡ []) (eqb (length path) 0)
-path-none path = decides-iff (empty path) (ap length) (eq-decides (length path) 0)
-  where
-    empty : (l : List ℕ) → length l ≡ 0 → l ≡ []
-    empty [] e = refl
-    empty (x ∷ l) e = absurd (omega arith)
-
 -- ---- what is found
 
 pub found-outside : {touch : ℕ → ℕ → Type 0} {s path island : List ℕ} {n p k : ℕ} → n ≤ p
-    → Judges touch s s n p k path island Find.NoPeak
+    → Judges touch s s n p k path island None
 found-outside {s = s} {n = n} {p = p} l =
     let e = cut-behind n (level_in s) p l in
     record { finds = λ h. let m = h.land in omega arith; behind = behind-same s n }
@@ -73,17 +48,18 @@ module _ {touch : ℕ → ℕ → Type 0} {touch? : ℕ → ℕ → Bool} {s t :
     peak-behind : Decides (Peak touch (cut n (level_in s)) p) r
     peak-behind = rw same at i.told
 
-    pub found_none : {path island : List ℕ} → r ≡ false → Judges touch s u n p k path island Find.NoPeak
+    pub found_none : {path island : List ℕ} → r ≡ false → Judges touch s u n p k path island None
     found_none f = record { finds = peak-behind.fails f; behind = behind-trans h.behind i.behind }
 
-    pub found-peak : {path island : List ℕ} → b ≡ false → r ≡ true → Judges touch s u n p k path island Find.NoAccount
+    pub found-peak : {path island : List ℕ} → b ≡ false → r ≡ true → Judges touch s u n p k path island (Some false)
     found-peak e f =
         let q = peak-behind.holds f in
         let m = height in
         record {
           finds = (
             q,
-            λ a. let l = account-below terrain q a in h.told.fails e (omega arith, account-best terrain l a),
+            refuted (λ a. let l = account-below terrain q a in
+                h.told.fails e (omega arith, account-best terrain l a)),
           );
           behind = behind-trans h.behind i.behind;
         }
@@ -106,14 +82,8 @@ module _ {touch : ℕ → ℕ → Type 0} {touch? : ℕ → ℕ → Bool} {s t :
         (λ a. (order-row-unique a.isle order, (a.leads, a.none)))
         (rw same at i.told)
 
-    pub found-account : r ≡ true → Judges touch s u n p k path island Find.Account
-    found-account f = record {
-      finds = (peak-of-best above best, account-decides.holds f);
-      behind = behind-trans h.behind i.behind;
-    }
-
-    pub found-other : r ≡ false → Judges touch s u n p k path island Find.NoAccount
-    found-other f = record {
-      finds = (peak-of-best above best, account-decides.fails f);
+    pub found-account : Judges touch s u n p k path island (Some r)
+    found-account = record {
+      finds = (peak-of-best above best, account-decides);
       behind = behind-trans h.behind i.behind;
     }

@@ -6,19 +6,19 @@
 --     topped                     what a flood gives with its best cell
 --     best-decides, peak-decides whether the start is the best, and a peak's cell
 --     peak-blank, -told          the answers of `is_peak`
---     crest-low, -told           the answers of `crest`
+--     crest-told                 the answer of `crest`
 -- Assumes nothing.
 use mathlib.Core.Path.{◌≡◌, refl, sym, ◌∙◌, subst}
 use mathlib.Core.Bool.{false}
 use mathlib.Core.List.{List}
-use Prim.Native.Nat.{ℕ, suc, ◌-◌, ◌≤◌, ◌<◌}
+use Prim.Native.Nat.{ℕ, suc, ◌-◌, ◌<◌}
 use native.Mathlib.Omega.{arith}
 use lib.Dec.{eqb}
 use borrow.Author.Tests.{eqb-true, eqb-false}
 use Rattle.relief.specs.Peaks.{alone, Peak}
 use Rattle.relief.specs.Outline.{Region}
 use Rattle.relief.specs.Inner.{Decides, cut, Better, above, before, Best}
-use Rattle.relief.proofs.Tests.{split, le-or-lt, true-not-false, decides-iff, refuted}
+use Rattle.relief.proofs.Tests.{split, le-or-lt, decides-iff, refuted}
 use Rattle.relief.proofs.Levels.{cut_below}
 use Rattle.relief.proofs.Ways.{way-mono}
 use Rattle.relief.proofs.Flats.{peak-not-better}
@@ -85,14 +85,6 @@ module _ {touch : ℕ → ℕ → Type 0} (s : List ℕ) (n c : ℕ) where
   peak-blank e = record {
     told = refuted (λ h. let l = h.land in omega arith);
     front = λ j l. refl;
-    behind = behind-same s n;
-  }
-
-  pub crest-low : (k : ℕ) → level_in s c ≤ k → Crested touch s s n c k false
-  crest-low k h = record {
-    told = refuted (λ m. let l = m.0 in omega arith);
-    reached = λ e. true-not-false e refl;
-    front = λ d l. refl;
     behind = behind-same s n;
   }
 

@@ -4,14 +4,12 @@
 --     PeakTold               whether a cell is a peak's
 --     Judges                 what the check finds, exactly
 -- It is stated over any way of touching. Assumes nothing.
-use Rattle.std.specs.Prelude.{◌≡◌, Bool, List, ℕ, ◌*◌, ◌≤◌, ◌<◌, length}
+use Rattle.std.specs.Prelude.{◌≡◌, Bool, Option, None, Some, List, ℕ, ◌*◌, ◌≤◌, ◌<◌, length}
 use Rattle.relief.specs.Peaks.{Peak}
 use Rattle.relief.specs.Accounts.{Account}
 use Rattle.relief.specs.Inner.{Decides, cut}
 use Rattle.words.specs.Words.{word_at}
 use Rattle.area.specs.Area.{Area, level_in}
-use Rattle.audit.specs.declared.Finding.{Finding}
-use Rattle.audit.specs.declared.Finding.TheVariants as Find
 
 pub record Auditing (s : List ℕ) (n rows : ℕ) : Type 0 where
   pub area : Area s n
@@ -28,12 +26,11 @@ module _ (touch : ℕ → ℕ → Type 0) where
     pub front : (j : ℕ) → j < n → word_at t j ≡ word_at s j
     pub behind : Behind s t n
 
-  -- what each finding says of the peak at p
-  abbrev pub Finds : (ℕ → ℕ) → ℕ → ℕ → List ℕ → List ℕ → Finding → Type 0
-  Finds level p k path island Find.NoPeak = Peak touch level p → ⊥
-  Finds level p k path island Find.Account = Peak touch level p × Account touch level p k path island
-  Finds level p k path island Find.NoAccount = Peak touch level p × (Account touch level p k path island → ⊥)
+  -- what a finding says of the peak at p: there is none, or there is, and whether this is an account of it
+  abbrev pub Finds : (ℕ → ℕ) → ℕ → ℕ → List ℕ → List ℕ → Option Bool → Type 0
+  Finds level p k path island None = Peak touch level p → ⊥
+  Finds level p k path island (Some b) = Peak touch level p × Decides (Account touch level p k path island) b
 
-  pub record Judges (s t : List ℕ) (n p k : ℕ) (path island : List ℕ) (r : Finding) : Type 0 where
+  pub record Judges (s t : List ℕ) (n p k : ℕ) (path island : List ℕ) (r : Option Bool) : Type 0 where
     pub finds : Finds (cut n (level_in s)) p k path island r
     pub behind : Behind s t n

@@ -10,24 +10,23 @@ use Rattle.std.specs.Prelude.{◌≡◌, Bool, true, List, [], ℕ, suc, ◌-◌
 use Rattle.relief.specs.Outline.{Region}
 use Rattle.relief.specs.Accounts.{LeadsOut}
 use Rattle.relief.specs.Inner.{Decides, cut, Better, Best, row_below}
-use Rattle.area.specs.Area.{level_in}
+use Rattle.area.specs.Area.{Area, level_in}
 use Rattle.flood.specs.Flood.{Flooded, reached_in}
-use Rattle.audit.specs.Audit.{Auditing, Behind}
+use Rattle.audit.specs.Audit.{Behind}
 
-pub record Outranking (s : List ℕ) (n rows p e : ℕ) : Type 0 where
-  pub audited : Auditing s n rows
+pub record Outranking (s : List ℕ) (n p e : ℕ) : Type 0 where
+  pub area : Area s n
   pub cell : p < n
   pub end : e < n
   pub land : 0 < level_in s e
 
-pub record Walking (s : List ℕ) (n rows k : ℕ) (path : List ℕ) (i : ℕ) : Type 0 where
-  pub audited : Auditing s n rows
+pub record Walking (s : List ℕ) (n k : ℕ) (path : List ℕ) (i : ℕ) : Type 0 where
+  pub area : Area s n
   pub land : 0 < k
   pub here : i < length path
-  pub last : 0 < i → get_or path (i - 1) 0 < n
 
-pub record Leading (s : List ℕ) (n rows p k : ℕ) : Type 0 where
-  pub audited : Auditing s n rows
+pub record Leading (s : List ℕ) (n p k : ℕ) : Type 0 where
+  pub area : Area s n
   pub cell : p < n
   pub land : 0 < k
 

@@ -1,13 +1,14 @@
 // Which cells of a swept grid are handed out: chosen, collected in the order quarter, and marked there.
 #![tactic(auto)]
 
-ghost use Rattle.std.specs.Prelude.{cond, ◌≡◌, ◌+◌, ◌<◌, ◌≤◌};
-ghost use Rattle.words.specs.Words.{Stored};
+ghost use Rattle.std.specs.Prelude.{cond, ◌≡◌, ◌+◌, ◌<◌};
 ghost use Rattle.area.specs.Area.{Area, order_in, mark_in};
-ghost use Rattle.choice.specs.Inner.{wants_part, chosen_in, Choosing, Collecting, Gathered, Collected, closed_in};
-ghost use Rattle.choice.specs.Inner.{marked_number, Marked};
+ghost use Rattle.choice.specs.Inner.{wants_part, chosen_in, Choosing, Collecting, Collected, closed_in, Marked};
 
-// Which of the listed peaks are wanted.
+// The mark beside a cell of the order quarter, one number with it: a cell has 32 bits there.
+const MARK: u32 = 1048576;
+
+// Which of the listed peaks are wanted. They are an enum and no closure, since the contracts of the survey name them.
 #[derive(Clone, Copy)]
 pub enum Part {
     // All of them.
@@ -27,14 +28,9 @@ fn wants(work: &[u8], n: usize, c: usize, part: Part, reaches: bool) -> bool
 {
     match part {
         Part::Whole => true,
-        Part::Open => reaches,
         Part::Closed => !reaches,
-        Part::Closing => {
-            if reaches {
-                return false;
-            }
-            !area::mark_in(words::get(work, n + c))
-        }
+        Part::Closing => !reaches && !area::mark_in(words::get(work, n + c)),
+        Part::Open => reaches,
     }
 }
 
@@ -48,42 +44,26 @@ pub fn chosen(work: &[u8], n: usize, c: usize, threshold: u32, part: Part) -> bo
         return false;
     }
     let w = words::get(work, 3 * n + c);
-    if words::index(words::get(work, 2 * n + c)) == c {
+    if words::get(work, 2 * n + c) as usize == c {
         return wants(work, n, c, part, area::mark_in(w));
     }
     let key = words::get(work, area::cell_in(w));
-    if level <= key {
-        return false;
-    }
-    if record::prominence(record::height(level), record::height(key)) < threshold {
-        return false;
-    }
-    wants(work, n, c, part, area::mark_two_in(w))
+    level > key
+        && record::prominence(record::height(level), record::height(key)) >= threshold
+        && wants(work, n, c, part, area::mark_two_in(w))
 }
 
-// Puts the cell `c` behind the `count` cells gathered, if it is chosen.
-fn gather(work: &mut [u8], n: usize, c: usize, count: usize, threshold: u32, part: Part) -> usize
-    requires { Choosing work.old n c × (count ≤ c) }
-    ensures { Gathered work.old work.new n c count threshold part result }
-{
-    if chosen(work, n, c, threshold, part) {
-        words::put(work, n + count, words::narrow(c));
-        return count + 1;
-    }
-    count
-}
-
-// Gathers the chosen cells below the limit into the order quarter, in reading order, and counts them.
+// Collects the chosen cells below the limit into the order quarter, in reading order, and counts them.
 pub fn collect(work: &mut [u8], n: usize, limit: usize, threshold: u32, part: Part) -> usize
     requires { Collecting work.old n limit }
-    ensures { Collected work.old work.new n limit
-        (chosen_in work.old n threshold part) result }
+    ensures { Collected work.old work.new n limit (chosen_in work.old n threshold part) result }
 {
     let mut count = 0;
-    let mut c = 0;
-    while c < limit {
-        count = gather(work, n, c, count, threshold, part);
-        c += 1;
+    for c in 0..limit {
+        if chosen(work, n, c, threshold, part) {
+            words::put(work, n + count, c as u32);
+            count += 1;
+        }
     }
     count
 }
@@ -93,42 +73,30 @@ fn closed_in(work: &[u8], n: usize, old: usize, c: usize) -> bool
     requires { (c < n) × Collecting work.now n old }
     ensures { result ≡ closed_in work.now n old c }
 {
-    if old <= c {
-        return false;
-    }
-    chosen(work, n, c, 0, Part::Closed)
+    c < old && chosen(work, n, c, 0, Part::Closed)
 }
 
 // A number of the order quarter, with a mark or without.
+// Not one function with `pass_number` of `joins`: the clause of each names the mark that its quarter has.
 fn marked(cell: usize, closed: bool) -> u32
     requires { cell < 1048576 }
     ensures { result ≡ cond closed (cell + 1048576) cell }
 {
     if closed {
-        return words::narrow(cell) + 1048576;
+        cell as u32 + MARK
+    } else {
+        cell as u32
     }
-    words::narrow(cell)
 }
 
-// Marks the place of `c` in the order quarter where `c` is the cell of a closed peak of the first `old` cells.
-fn mark_cell(work: &mut [u8], n: usize, old: usize, c: usize)
-    requires { (c < n) × Collecting work.old n old }
-    ensures { Stored work.old work.new (n + c)
-        (marked_number work.old n old c) }
-{
-    let closed = closed_in(work, n, old, c);
-    let cell = area::cell_in(words::get(work, n + c));
-    words::put(work, n + c, marked(cell, closed));
-}
-
-// Marks every cell of a closed peak of the first `old` cells.
+// Marks every cell of a closed peak of the first `old` cells, at its place in the order quarter.
 pub fn mark(work: &mut [u8], n: usize, old: usize)
     requires { Collecting work.old n old }
     ensures { Marked work.old work.new n old }
 {
-    let mut c = 0;
-    while c < n {
-        mark_cell(work, n, old, c);
-        c += 1;
+    for c in 0..n {
+        let cell = area::cell_in(words::get(work, n + c));
+        let closed = closed_in(work, n, old, c);
+        words::put(work, n + c, marked(cell, closed));
     }
 }

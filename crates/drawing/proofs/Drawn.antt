@@ -1,38 +1,25 @@
 -- What is drawn: the cells that a flood above k reaches are the island, and the trail to the best cell of a flood at k
 -- is the first way to it.
---     draw-flooding             what the floods ask
 --     drawn-island              the island, from the flood and the row
 --     flooded-trailing, -length what following a trail asks
---     drawn-path, drawn-none    the path, or none
+--     drawn-path                the path
 -- Assumes nothing.
-use mathlib.Core.Path.{◌≡◌, refl, ◌∙◌, subst}
-use mathlib.Core.List.{List, []}
-use Prim.Native.Nat.{ℕ, suc, ◌+◌, ◌≤◌, ◌<◌}
+use mathlib.Core.Path.{◌≡◌, ◌∙◌, subst}
+use mathlib.Core.List.{List}
+use Prim.Native.Nat.{ℕ, ◌+◌, ◌≤◌, ◌<◌}
 use native.Mathlib.Numerals.{add-one}
 use native.Mathlib.Omega.{arith}
 use lib.ListN.{length}
 use Rattle.relief.specs.Inner.{row_below}
 use Rattle.relief.proofs.Rows.{row-below-length}
 use Rattle.area.specs.Area.{order_in}
-use Rattle.flood.specs.Flood.{Flooding, Flooded, BestPlace, reached_in}
+use Rattle.flood.specs.Flood.{Flooded, BestPlace, reached_in}
 use Rattle.flood.proofs.FirstWays.{trail-exists, trail-length, trail-way}
 use Rattle.flood.proofs.Reached.{flooded-area, reached-region, reached-best}
 use Rattle.drawing.specs.Drawing.{Drawing, Filled, DrawnIsland, DrawnPath}
 use Rattle.drawing.specs.Inner.{TrailIn, Trailing}
 
 module _ {s : List ℕ} {n rows p k : ℕ} {row : List ℕ} (d : Drawing s n rows p k row) where
-  pub draw-flooding : {low : ℕ} → 0 < low → low ≤ suc k → Flooding s n rows p low
-  draw-flooding l m =
-      let a = d.above in
-      record {
-        area = d.area;
-        rows_some = d.rows_some;
-        rows_few = d.rows_few;
-        cell = d.cell;
-        land = l;
-        high = omega arith;
-      }
-
   module _ {touch : ℕ → ℕ → Type 0} {t : List ℕ} {low count : ℕ} (f : Flooded touch s t n p low count) where
     pub flooded-trailing : {at : ℕ} → at < count → Trailing t n at
     flooded-trailing {at} l =
@@ -92,15 +79,3 @@ module _ {s : List ℕ} {n rows p k : ℕ} {row : List ℕ} (d : Drawing s n row
         back = f.back;
         len = f.len;
       }
-
-pub drawn-none : {touch : ℕ → ℕ → Type 0} (s : List ℕ) {n p k : ℕ} (row : List ℕ) → k ≡ 0
-    → DrawnPath touch s s n p k row row 0
-drawn-none s row e = record {
-  cells = [];
-  none = λ z. refl;
-  leads = λ l. absurd (omega arith);
-  filled = record { count = refl; cells_in = refl };
-  few = omega arith;
-  back = λ j l. refl;
-  len = refl;
-}

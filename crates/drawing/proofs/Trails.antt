@@ -11,7 +11,7 @@ use native.Mathlib.Omega.{arith}
 use lib.ListN.{length, set, length-append}
 use Rattle.relief.proofs.Tests.{split, le-or-lt}
 use Rattle.words.specs.Words.{over}
-use Rattle.words.proofs.Over.{over_none, over-front, over-ahead, over-length}
+use Rattle.words.proofs.Over.{over_none, over-front, over-ahead}
 use Rattle.area.specs.Area.{order_in, parent_in}
 use Rattle.flood.specs.Flood.{Trail, root, next}
 use Rattle.flood.proofs.FirstWays.{trail-unique}
@@ -36,15 +36,6 @@ pub record Counts (s : List ℕ) (n at : ℕ) (row : List ℕ) (count j : ℕ) :
   pub sum : count + length left ≡ suc (length row)
 
 module _ {s : List ℕ} {n at : ℕ} (t : Trailing s n at) where
-  pub counts_start : Counts s n at t.row 1 at
-  counts_start = record {
-    some = omega arith;
-    place = omega arith;
-    left = t.row;
-    trail = t.trail;
-    sum = omega arith;
-  }
-
   module _ {count j : ℕ} (h : Counts s n at t.row count j) where
     pub counts-place : j < t.count
     counts-place = let l = h.place in let m = t.place in let k = h.some in omega arith
@@ -114,15 +105,6 @@ module _ {s : List ℕ} {n at : ℕ} (t : Trailing s n at) {row : List ℕ} (roo
         let f = length-append h.left h.rest in
         let g = h.counted in
         omega arith
-
-    pub lays-length : length row' ≡ length row
-    lays-length = ap length h.laid ∙ over-length row i h.rest (let f = fits in omega arith)
-
-    pub lays-few : i ≤ length t.row
-    lays-few = let f = fits in omega arith
-
-    pub lays-room : i ≤ length row
-    lays-room = let f = fits in omega arith
 
     pub lays-place : 0 < i → j < t.count
     lays-place l = let (m, w) = h.place l in let p = t.place in omega arith

@@ -1,20 +1,10 @@
--- Cells put into a row: inner contracts.
---     Putting, Put           before and after a cell is put behind those of the row, if it is reached
+-- A trail put into a row: inner contracts.
 --     TrailIn s n at l       l is the trail to the place `at` of the queue in the work area
 --     Trailing s n at        what is asked to follow it
 -- Assumes nothing.
-use Rattle.std.specs.Prelude.{◌≡◌, true, false, List, ℕ, ◌+◌, ◌≤◌, ◌<◌, length, set}
+use Rattle.std.specs.Prelude.{List, ℕ, ◌≤◌, ◌<◌}
 use Rattle.area.specs.Area.{Area, order_in, parent_in}
-use Rattle.flood.specs.Flood.{Trail, reached_in}
-
-pub record Putting (s : List ℕ) (n c : ℕ) (row : List ℕ) (count : ℕ) : Type 0 where
-  pub area : Area s n
-  pub cell : c < n
-  pub room : count < length row
-
-pub data Put (s : List ℕ) (n c : ℕ) (row row' : List ℕ) (count r : ℕ) : Type 0 where
-  left : reached_in s n c ≡ false → r ≡ count → row' ≡ row → Put s n c row row' count r
-  put : reached_in s n c ≡ true → r ≡ count + 1 → row' ≡ set row count c → Put s n c row row' count r
+use Rattle.flood.specs.Flood.{Trail}
 
 abbrev pub TrailIn : List ℕ → ℕ → ℕ → List ℕ → Type 0
 TrailIn s n at l = Trail (order_in s n) (parent_in s n) at l

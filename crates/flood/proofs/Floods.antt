@@ -1,14 +1,13 @@
 -- The flood in the work area, from its start to its end.
 --     Floods                     what is known between two turns
 --     Begun, begun               before the first turn
---     floods-step, floods-done   one turn, and the end
+--     floods-few, floods-done    between two turns, and the end
 -- Assumes nothing.
-use mathlib.Core.Path.{◌≡◌, refl, sym, ◌∙◌, ap, subst}
+use mathlib.Core.Path.{◌≡◌, refl, ◌∙◌, ap}
 use mathlib.Core.List.{List}
 use mathlib.Core.Logic.{◌↔◌}
 use Prim.Native.Nat.{ℕ, ◌+◌, ◌*◌, ◌≤◌, ◌<◌}
 use native.Mathlib.Nat.{add-zero}
-use native.Mathlib.Numerals.{add-one}
 use native.Mathlib.Omega.{arith}
 use lib.ListN.{length}
 use Rattle.relief.specs.Inner.{cut}
@@ -17,7 +16,7 @@ use Rattle.relief.proofs.Levels.{cut_below, cut-behind}
 use Rattle.words.specs.Words.{word_at, Stored}
 use Rattle.area.specs.Area.{level_in, order_in, parent_in}
 use Rattle.flood.specs.Flood.{Flooding, Flooded}
-use Rattle.flood.specs.Inner.{Sieved, Spreading, Looked}
+use Rattle.flood.specs.Inner.{Sieved, Spreading}
 use Rattle.flood.proofs.Sieves.{sieved-gates, sieved-none}
 use Rattle.flood.proofs.Spreading.{spreading-start, spreading-few, spreading-done}
 
@@ -36,9 +35,9 @@ pub record Begun (touch : ℕ → ℕ → Type 0) (s t : List ℕ) (n start low 
   pub back : (j : ℕ) → 3 * n ≤ j → word_at t j ≡ word_at s j
   pub len : length t ≡ length s
 
-pub begun : {touch : ℕ → ℕ → Type 0} {s a b t : List ℕ} {n rows start low v : ℕ} → Flooding s n rows start low
+pub begun : {touch : ℕ → ℕ → Type 0} {s a b t : List ℕ} {n start low v : ℕ} → Flooding s n start low
     → Sieved s a n low n → Stored a b (2 * n + start) 0 → Stored b t n v → v ≡ start → Begun touch s t n start low
-begun {touch} {s} {a} {b} {t} {n} {rows} {start} {low} {v} w h p q e =
+begun {touch} {s} {a} {b} {t} {n} {start} {low} {v} w h p q e =
     let l = w.cell in
     record {
       floods = record {
@@ -83,16 +82,6 @@ begun {touch} {s} {a} {b} {t} {n} {rows} {start} {low} {v} w h p q e =
 
 module _ {touch : ℕ → ℕ → Type 0} {s t : List ℕ} {n start low head tail : ℕ}
     (h : Floods touch s t n start low head tail) where
-  pub floods-step : {u : List ℕ} {r : ℕ} → Looked touch t u n head tail r → Floods touch s u n start low (head + 1) r
-  floods-step {u} {r} k = subst (λ (m : ℕ). Floods touch s u n start low m r) (sym (add-one head)) (record {
-    spreading = k.spreading;
-    first = k.onward.taken 0 h.spreading.some ∙ h.first;
-    gates = λ c l. (λ x. (h.gates c l).0 ((k.onward.gates c l).0 x), λ x. (k.onward.gates c l).1 ((h.gates c l).1 x));
-    front = λ j l. k.onward.front j l ∙ h.front j l;
-    back = λ j l. k.onward.back j l ∙ h.back j l;
-    len = k.onward.len ∙ h.len;
-  })
-
   pub floods-few : tail ≤ n
   floods-few = spreading-few h.spreading
 

@@ -1,6 +1,5 @@
 -- What a flood has reached, in terms of paths: the region of its start, in reading order by a test, and with the best
 -- place of the queue its best cell.
---     flooded-queue, start-reached       what a flood gives to choose the best place, or the best cell
 --     reached-decides, reached-region    which cells are reached, by a test and by paths
 --     reached-best, reached-top          the best place, and the best cell, are of the best cell of the region
 -- Assumes nothing.
@@ -15,7 +14,7 @@ use Rattle.relief.proofs.Tests.{lt-decides, decides-iff}
 use Rattle.relief.proofs.Levels.{cut_below}
 use Rattle.relief.proofs.Rows.{row_below_lem}
 use Rattle.area.specs.Area.{Area, level_in, order_in, parent_in}
-use Rattle.flood.specs.Flood.{Flooded, Queue, BestPlace, BestCell, reached_in}
+use Rattle.flood.specs.Flood.{Flooded, BestPlace, BestCell, reached_in}
 use Rattle.flood.proofs.FirstWays.{reach-sound, reach-complete}
 
 pub reached-decides : (t : List ℕ) (n c : ℕ) → Decides (parent_in t n c < n) (reached_in t n c)
@@ -30,17 +29,6 @@ better-same d e (before i l) = before (omega arith) l
 module _ {touch : ℕ → ℕ → Type 0} {s t : List ℕ} {n p low count : ℕ} (f : Flooded touch s t n p low count) where
   pub flooded-area : Area s n → Area t n
   flooded-area a = let e = f.len in let r = a.room in record { few = a.few; room = omega arith }
-
-  pub flooded-queue : Area s n → Queue t n count
-  flooded-queue a = record {
-    area = flooded-area a;
-    some = f.spread.some;
-    few = f.few;
-    cells = λ i l. (f.inside i l).0;
-  }
-
-  pub start-reached : parent_in t n p < n
-  start-reached = subst (λ (c : ℕ). parent_in t n c < n) f.spread.first (f.inside 0 f.spread.some).1
 
   pub reached-region : InOrder (Region touch (cut n (level_in s)) p low) (row_below (reached_in t n) n)
   reached-region =

@@ -1,14 +1,12 @@
 -- What reaching a cell does to the queue in the work area.
 --     onward_self, onward-trans     going on
---     reach-left, reach-put         a cell that is passed by, and one that is put behind the queue
---     reach-spreads                 either keeps what is known
---     look-start, -step, -done      the eight places around a cell, one after the other
+--     reach-spreads                 what is passed by, or put behind the queue, keeps what is known
+--     look-step, look-done          the eight places around a cell, one after the other
 -- Assumes nothing.
 use mathlib.Core.Path.{◌≡◌, refl, sym, ◌∙◌, ap, subst}
 use mathlib.Core.List.{List}
 use mathlib.Core.Logic.{◌⊎◌, inl, inr}
 use Prim.Native.Nat.{ℕ, ◌+◌, ◌*◌, ◌≤◌, ◌<◌}
-use native.Mathlib.Nat.{not-suc-le-zero}
 use native.Mathlib.Numerals.{add-one}
 use native.Mathlib.Omega.{arith}
 use Rattle.relief.specs.Plane.{plane_of, touch_of}
@@ -105,15 +103,6 @@ abbrev pub SeenTo : ℕ → ℕ → ℕ → ℕ → ℕ → Type 0
 SeenTo rows n x i c = (j : ℕ) × (j < i) × (neighbour_of rows n x j ≡ c)
 
 module _ {rows n : ℕ} {s : List ℕ} {head tail x : ℕ} (some : 0 < rows) (ex : x ≡ order_in s n head) where
-  pub look-start : Spreading (touch_of (plane_of rows)) n (order_in s n) (parent_in s n) head tail (λ (c : ℕ). ⊥)
-      → Turned (touch_of (plane_of rows)) s s n head tail tail (SeenTo rows n x 0)
-  look-start h = record {
-    grows = omega arith;
-    onward = onward_self s n tail;
-    spreading = spreading-left h {y = n} (λ c a. absurd a) (λ c (j, l, e). absurd (not-suc-le-zero l))
-        (λ l e. omega arith);
-  }
-
   -- one more place
   pub look-step : {t u : List ℕ} {last r i : ℕ} → head < tail
       → Turned (touch_of (plane_of rows)) s t n head tail last (SeenTo rows n x i) → i < 8

@@ -32,10 +32,8 @@ pub data Trail (queue from : ℕ → ℕ) : ℕ → List ℕ → Type 0 where
   next : {j : ℕ} {l : List ℕ} → 0 < j → Trail queue from (from (queue j)) l → Trail queue from j (l ++ (queue j ∷ []))
 
 -- A blank cell has level 0, and is never reached.
-pub record Flooding (s : List ℕ) (n rows start low : ℕ) : Type 0 where
+pub record Flooding (s : List ℕ) (n start low : ℕ) : Type 0 where
   pub area : Area s n
-  pub rows_some : 0 < rows
-  pub rows_few : rows ≤ 1024
   pub cell : start < n
   pub land : 0 < low
   pub high : low ≤ level_in s start

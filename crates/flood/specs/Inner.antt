@@ -1,33 +1,25 @@
 -- The steps of a flood: inner contracts. A cell is open while the parents' quarter holds n for it, and reached where it
 -- holds less.
 --     Sieved s t n low c       the first c cells are open where they are at or above `low`, and else shut
---     gate_in s n y            what the parents' quarter holds of y, and more than n where there is no such cell
---     GateAsking               what that asks, of a place around the cell x
---     Reached                  what putting a cell into the queue does
+--     Reaching, Reached        what putting a cell into the queue asks and does
 --     Spreading                the cells around the first `head` of `tail` cells in the queue are reached, and of those
 --                              around the next one the ones that were looked at (`Seen`)
 --     Onward s t n tail        t goes on from s: the first `tail` cells of the queue, levels and passes are the same
 --     Looking, Looked          before and after the cells around one cell are reached
---     Preferred, CellPreferred what choosing the better of two places, and of two cells, does
 -- Assumes nothing.
-use Rattle.std.specs.Prelude.{◌≡◌, Bool, true, cond, List, ◌⊎◌, ◌↔◌, ℕ, suc, ◌+◌, ◌*◌, ◌≤◌, ◌<◌, ltb, length}
-use Rattle.relief.specs.Inner.{Better}
+use Rattle.std.specs.Prelude.{◌≡◌, cond, List, ◌⊎◌, ◌↔◌, ℕ, suc, ◌+◌, ◌*◌, ◌≤◌, ◌<◌, ltb, length}
 use Rattle.words.specs.Words.{word_at, Stored}
 use Rattle.area.specs.Area.{Area, level_in, order_in, parent_in}
-use Rattle.places.specs.Places.{Around, InnerCell}
 
 pub record Sieved (s t : List ℕ) (n low c : ℕ) : Type 0 where
   pub gates : (d : ℕ) → d < c → parent_in t n d ≡ cond (ltb (level_in s d) low) (n + 1) n
   pub other : (j : ℕ) → (2 * n ≤ j → j < 2 * n + c → ⊥) → word_at t j ≡ word_at s j
   pub len : length t ≡ length s
 
-unfoldable pub gate_in : List ℕ → ℕ → ℕ → ℕ
-gate_in s n y = cond (ltb y n) (parent_in s n y) (n + 1)
-
-pub record GateAsking (s : List ℕ) (n rows x row : ℕ) (inner : Bool) (i : ℕ) : Type 0 where
+pub record Reaching (s : List ℕ) (n head tail i : ℕ) : Type 0 where
   pub area : Area s n
-  pub around : Around rows n x row
-  pub inside : inner ≡ true → InnerCell rows n x
+  pub from : head < n
+  pub room : tail ≤ n
   pub which : i < 8
 
 pub data Reached (s t : List ℕ) (n y head tail r : ℕ) : Type 0 where
@@ -60,10 +52,8 @@ pub record Onward (s t : List ℕ) (n tail : ℕ) : Type 0 where
   pub len : length t ≡ length s
 
 module _ (touch : ℕ → ℕ → Type 0) where
-  pub record Looking (s : List ℕ) (n rows head tail : ℕ) : Type 0 where
+  pub record Looking (s : List ℕ) (n head tail : ℕ) : Type 0 where
     pub area : Area s n
-    pub rows_some : 0 < rows
-    pub rows_few : rows ≤ 1024
     pub more : head < tail
     pub spreading : Spreading touch n (order_in s n) (parent_in s n) head tail (λ (c : ℕ). ⊥)
 
@@ -71,12 +61,3 @@ module _ (touch : ℕ → ℕ → Type 0) where
     pub grows : tail ≤ r
     pub onward : Onward s t n tail
     pub spreading : Spreading touch n (order_in t n) (parent_in t n) (suc head) r (λ (c : ℕ). ⊥)
-
-pub data Preferred (s : List ℕ) (n i j r : ℕ) : Type 0 where
-  stays : r ≡ i → (Better (level_in s) (order_in s n j) (order_in s n i) → ⊥) → Preferred s n i j r
-  moves : r ≡ j → Better (level_in s) (order_in s n j) (order_in s n i) → Preferred s n i j r
-
-pub data CellPreferred (s : List ℕ) (n top c r : ℕ) : Type 0 where
-  unreached : r ≡ top → n ≤ parent_in s n c → CellPreferred s n top c r
-  worse : r ≡ top → (Better (level_in s) c top → ⊥) → CellPreferred s n top c r
-  chosen : r ≡ c → parent_in s n c < n → Better (level_in s) c top → CellPreferred s n top c r

@@ -14,7 +14,7 @@ mod passes; // passes.rt: the pass cells of document 02
 mod short; // short.rt: rows with one entry too few
 mod shortcuts; // shortcuts.rt: the short cuts that go wrong
 mod show; // show.rt: a line for each answer
-mod text; // text.rt: words and numbers on standard output
+mod text; // text.rt: answers as text
 
 use std::io;
 

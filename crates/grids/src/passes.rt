@@ -15,9 +15,9 @@ fn shelves(rt: &impl Print) -> io::Result<()> {
     let nowhere = [4, 6, 4, 9];
     let lower = [4, 5, 4, 6, 4, 9];
     let equal = [4, 6, 4, 6, 4, 9];
-    show_list(rt, b"4 6 4 9", 1, &nowhere, 1)?;
-    show_list(rt, b"4 5 4 6 4 9", 1, &lower, 1)?;
-    show_list(rt, b"4 6 4 6 4 9", 1, &equal, 1)
+    show_list(rt, "4 6 4 9", 1, &nowhere, 1)?;
+    show_list(rt, "4 5 4 6 4 9", 1, &lower, 1)?;
+    show_list(rt, "4 6 4 6 4 9", 1, &equal, 1)
 }
 
 // The second column closes the 2 with the pass cell 6, which leads to the 3 at cell 7. Only the third column brings
@@ -26,10 +26,10 @@ fn moves(rt: &impl Print) -> io::Result<()> {
     let heights = [
         BLANK, 2, BLANK, BLANK, 1, BLANK, 1, 3, 3, BLANK, BLANK, BLANK,
     ];
-    show_run(rt, b"four rows, a pass cell that moves", 4, &heights, 1)?;
+    show_run(rt, "four rows, a pass cell that moves", 4, &heights, 1)?;
     show_list(
         rt,
-        b"four rows, a pass cell that moves, the list",
+        "four rows, a pass cell that moves, the list",
         4,
         &heights,
         1,

@@ -1,36 +1,64 @@
-// Words and numbers on standard output.
-use second::magnitude;
-use std::io;
+// Answers as text.
+use second::{Record, Records};
+use std::fmt;
 
-// Writes the text.
-pub fn say(rt: &impl Print, text: &[u8]) -> io::Result<()> {
-    rt.write_all(text)
-}
+// A value, or a dash where there is none.
+#[derive(Clone, Copy)]
+pub struct OrDash<T>(pub Option<T>);
 
-// Writes a number that has no sign.
-pub fn say_count(rt: &impl Print, n: u64) -> io::Result<()> {
-    rt.print(n)
-}
-
-// Writes a number behind its name.
-pub fn say_named(rt: &impl Print, name: &[u8], n: u64) -> io::Result<()> {
-    say(rt, name)?;
-    say_count(rt, n)
-}
-
-// Writes a number with its sign.
-pub fn say_number(rt: &impl Print, n: i64) -> io::Result<()> {
-    if n < 0 {
-        say(rt, b"-")?;
+impl<T: fmt::Display> fmt::Display for OrDash<T> {
+    fn fmt<W: fmt::Write>(&self, f: &mut fmt::Formatter<W>) -> fmt::Result {
+        match &self.0 {
+            Some(value) => write!(f, "{value}"),
+            None => write!(f, "-"),
+        }
     }
-    say_count(rt, magnitude(n))
 }
 
-// Writes a number, and a dash for the mark of a missing one.
-pub fn say_field(rt: &impl Print, n: i64, missing: i64) -> io::Result<()> {
-    if n == missing {
-        say(rt, b"-")
-    } else {
-        say_number(rt, n)
+// Cell, height, key height and pass cell of a record.
+#[derive(Clone, Copy)]
+pub struct Line(pub Record);
+
+impl fmt::Display for Line {
+    fn fmt<W: fmt::Write>(&self, f: &mut fmt::Formatter<W>) -> fmt::Result {
+        let Record {
+            cell,
+            height,
+            key,
+            pass,
+        } = self.0;
+        write!(f, "{cell} {height} {} {}", OrDash(key), OrDash(pass))
+    }
+}
+
+// Records with a comma between two.
+#[derive(Clone, Copy)]
+pub struct Lines<'a>(pub &'a Records);
+
+impl fmt::Display for Lines<'_> {
+    fn fmt<W: fmt::Write>(&self, f: &mut fmt::Formatter<W>) -> fmt::Result {
+        for (i, record) in self.0.as_slice().iter().enumerate() {
+            if i > 0 {
+                write!(f, ", ")?;
+            }
+            write!(f, "{}", Line(*record))?;
+        }
+        Ok(())
+    }
+}
+
+// The numbers of a row, each behind a blank, and a dash where it has none.
+#[derive(Clone, Copy)]
+pub struct Row<'a>(pub &'a [u32]);
+
+impl fmt::Display for Row<'_> {
+    fn fmt<W: fmt::Write>(&self, f: &mut fmt::Formatter<W>) -> fmt::Result {
+        if self.0.is_empty() {
+            write!(f, " -")?;
+        }
+        for number in self.0 {
+            write!(f, " {number}")?;
+        }
+        Ok(())
     }
 }

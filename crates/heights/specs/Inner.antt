@@ -3,15 +3,14 @@
 --     Loading, Loaded      before and after the levels of heights are put into the first quarter
 -- The bytes behind the work area of n cells, 16 for each, stay as they were.
 -- Assumes nothing.
-use Rattle.std.specs.Prelude.{◌≡◌, List, ℕ, ◌*◌, ◌≤◌, ◌<◌, ℤ, length, get_or}
+use Rattle.std.specs.Prelude.{◌≡◌, List, ℕ, ◌*◌, ◌≤◌, ◌<◌, ℤ, length, get_or, Ok}
 use Rattle.relief.specs.Heights.{levels}
-use Rattle.record.specs.declared.Checked.TheVariants.{Good}
 use Rattle.record.specs.Refusals.{first_of}
 use Rattle.area.specs.Area.{Area, level_in}
 use Rattle.heights.specs.Grid.{grid_tests}
 
 pub record GoodGrid (rows cells work : ℕ) : Type 0 where
-  pub good : first_of (grid_tests rows cells work) ≡ Good
+  pub good : first_of (grid_tests rows cells work) ≡ Ok tt
   pub some : 0 < rows
   pub few : rows ≤ 1024
   pub fits : cells ≤ 1048576

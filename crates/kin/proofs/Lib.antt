@@ -1,7 +1,6 @@
 mod Chains  -- chains and rows of cells
 mod Numbers  -- marks and ends in the numbers of links
 mod ListedCells  -- which cells are listed, as the work area tells it
-mod Stores  -- one cell seen to, by stores
 mod PeaksHung  -- the loop that hangs the peaks
 mod PassesThreaded  -- the loop that threads the passes
 mod Uppers  -- passes and upper peaks, as a survey tells them

@@ -1,8 +1,7 @@
 -- Threading the passes under their upper peaks, place by place from the last of the order on.
 --     threaded-start     nothing is done yet
---     threaded-asked     what threading the next cell asks
 --     threaded-step      one cell seen to
---     threaded-back, threaded-done     the loop's next place is one less than its count; at the end the count is 0
+--     threaded-back      the loop's next place is one less than its count
 -- The cells of the order are all different, and no upper peak is a pass: so a pass still to come has its number of
 -- before, and the rows of other peaks stay. Assumes nothing.
 use mathlib.Core.Path.{◌≡◌, refl, sym, ◌∙◌, ap, subst}
@@ -15,7 +14,7 @@ use native.Mathlib.Decide.{ℕ_discrete}
 use Rattle.relief.proofs.Tests.{split, below_suc}
 use Rattle.area.specs.Area.{level_in, parent_in, pass_in, pass_of, cell_in, mark_in, prio}
 use Rattle.sweep.specs.Sweep.{cell_at}
-use Rattle.kin.specs.Inner.{Row, Under, Threading, Threaded, Threadable, Put, ThreadedCell, left, put}
+use Rattle.kin.specs.Inner.{Row, Under, Threading, Threaded, Put, ThreadedCell, left, put}
 use Rattle.kin.proofs.Chains.{row-none, row_same, row_more}
 use Rattle.kin.proofs.ListedCells.{test-apart}
 
@@ -83,7 +82,7 @@ module _ {s t : List ℕ} {n m i : ℕ} (w : Threading s n m) (h : Threaded s t 
         upper = u.upper;
       }))
 
-  -- ---- what is asked
+  -- ---- its upper peak
 
   module _ (pass : mark x ≡ true) where
     upper-same : pass_of t n x ≡ pass_of s n x
@@ -94,20 +93,6 @@ module _ {s t : List ℕ} {n m i : ℕ} (w : Threading s n m) (h : Threaded s t 
 
     upper-plain : mark (pass_of s n x) ≡ false
     upper-plain = (w.uppers x inside (w.ordered.inside i here).1 pass).1
-
-  threadable : Threadable t n x
-  threadable = record {
-    area = record { few = w.area.few; room = let e = h.len in let a = w.area.room in omega arith };
-    cell = inside;
-    upper = λ e.
-        let pass = sym (mark-same x inside) ∙ e in (
-          let l = upper-below pass in let f = upper-same pass in omega arith,
-          λ q. test-apart mark pass (upper-plain pass) (sym q ∙ upper-same pass),
-        );
-  }
-
-  pub threaded-asked : {y : ℕ} → y ≡ cell_at t n i → Threadable t n y
-  threaded-asked e = subst (Threadable t n) (sym (e ∙ order_same)) threadable
 
   -- ---- a cell that is no pass
 
@@ -185,6 +170,3 @@ module _ {s t : List ℕ} {n m i : ℕ} (w : Threading s n m) (h : Threaded s t 
 
 pub threaded-back : {s t : List ℕ} {n m k : ℕ} → 0 < k → Threaded s t n m k → Threaded s t n m (suc (k - 1))
 threaded-back {s} {t} {n} {m} l h = subst (Threaded s t n m) (omega arith) h
-
-pub threaded-done : {s t : List ℕ} {n m k : ℕ} → k ≤ 0 → Threaded s t n m k → Threaded s t n m 0
-threaded-done {s} {t} {n} {m} l h = subst (Threaded s t n m) (omega arith) h

@@ -1,10 +1,9 @@
 -- Hanging the listed peaks at their passes, cell by cell from the last on.
 --     hung-start       nothing is done yet
 --     hung-blank       nothing is to be done where all cells are blank
---     hung-choosing    what choosing the next cell asks, ..
---     hung-listed      .. and that it is listed if it was at first
+--     hung-listed      the next cell is listed if it was at first
 --     hung-step        one cell seen to
---     hung-back, hung-done     the loop's next cell is one less than its count; at the end the count is 0
+--     hung-back        the loop's next cell is one less than its count
 -- A pass is no peak, so no number that a pass gets is one of a peak, and the numbers of a peak still to come are those
 -- of before. Assumes nothing.
 use mathlib.Core.Path.{◌≡◌, refl, sym, ◌∙◌, ap, subst}
@@ -18,7 +17,6 @@ use lib.Dec.{eqb}
 use borrow.Author.Tests.{ne_eqb}
 use Rattle.relief.proofs.Tests.{split, test, below_suc, true-not-false}
 use Rattle.area.specs.Area.{level_in, parent_in, pass_in, pass_of, cell_in, mark_in}
-use Rattle.choice.specs.Inner.{Choosing}
 use Rattle.kin.specs.Inner.{Row, listed, Hangs, first_in, Hanging, Hung, Entered, Filed, FiledCell, left, top}
 use Rattle.kin.specs.Inner.{hung}
 use Rattle.kin.proofs.Chains.{row-none, row_same, row_more}
@@ -74,13 +72,6 @@ module _ {s t : List ℕ} {n T c : ℕ} (w : Hanging s n T) (h : Hung s t n T (s
 
   pass_same : pass_of t n c ≡ pass_of s n c
   pass_same = ap cell_in (h.passes_left c here (λ e. omega arith))
-
-  pub hung-choosing : Choosing t n c
-  hung-choosing = record {
-    area = record { few = w.area.few; room = let e = h.kept.len in let a = w.area.room in omega arith };
-    cell = here;
-    pass = λ l. let e = level-same c here in let f = pass_same in let g = w.passes c here (omega arith) in omega arith;
-  }
 
   pub hung-listed : listed t n T c ≡ listed s n T c
   hung-listed =
@@ -283,6 +274,3 @@ module _ {s t : List ℕ} {n T c : ℕ} (w : Hanging s n T) (h : Hung s t n T (s
 
 pub hung-back : {s t : List ℕ} {n T k : ℕ} → 0 < k → Hung s t n T k → Hung s t n T (suc (k - 1))
 hung-back {s} {t} {n} {T} l h = subst (Hung s t n T) (omega arith) h
-
-pub hung-done : {s t : List ℕ} {n T k : ℕ} → k ≤ 0 → Hung s t n T k → Hung s t n T 0
-hung-done {s} {t} {n} {T} l h = subst (Hung s t n T) (omega arith) h

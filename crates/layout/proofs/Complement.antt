@@ -1,19 +1,18 @@
 -- Laws of two's complement: the one file that unfolds `bits_of` and `signed_of`.
---     bits-level       the bits of a height are its level moved by 2^31, modulo 2^32
+--     bits-cast        the bits of z are those that a cast keeps
 --     signed-bits      the number with the bits of z is z
 --     bits-signed      the bits of the number with the bits w are w
---     signed-level     a height whose level is w moved by 2^31 is the number with the bits w
+--     signed-cast      a cast reads them so
 -- Each goes by the sign, by linear arithmetic. Assumes nothing.
-use Rattle.std.proofs.Common.{◌≡◌, ℕ, ◌+◌, ◌-◌, ◌%◌, ◌<◌, ◌≤◌, ℤ, pos, negsuc, sym, ap, ◌∙◌, arith, w32, SFits, le-ltb}
-use Rattle.std.proofs.Common.{lt-ltb}
+use Rattle.std.proofs.Common.{◌≡◌, ℕ, suc, ◌-◌, ◌<◌, ◌≤◌, ℤ, pos, negsuc, refl, sym, ap, ◌∙◌, arith, w32, SFits, of_z}
+use Rattle.std.proofs.Common.{to_z, le-ltb, lt-ltb}
 use native.Mathlib.Decide.{dec_lt}
-use Rattle.relief.specs.Heights.{level_of}
 use Rattle.layout.specs.Layout.{bits_of, signed_of}
 
-pub bits-level : {z : ℤ} → SFits w32 z → bits_of z ≡ (level_of z + 2147483648) % 4294967296
-unfolding bits_of level_of
-bits-level {z = pos n} f = let h = f.sfits in omega arith
-bits-level {z = negsuc n} f = let h = f.sfits in omega arith
+pub bits-cast : (z : ℤ) → of_z w32 z ≡ bits_of z
+unfolding bits_of
+bits-cast (pos n) = refl
+bits-cast (negsuc n) = omega arith
 
 signed_low : (w : ℕ) → w < 2147483648 → signed_of w ≡ pos w
 unfolding signed_of
@@ -38,8 +37,11 @@ bits-signed w h = elim (dec_lt w 2147483648) [
   | no n ↦ ap bits_of (signed_high w (omega arith)) ∙ omega arith
 ]
 
-pub signed-level :
-    {z : ℤ} (w : ℕ) → SFits w32 z → w < 4294967296 → level_of z ≡ (w + 2147483648) % 4294967296 → z ≡ signed_of w
-signed-level {z} w f h e =
-    let back : bits_of z ≡ w = bits-level f ∙ omega arith in
-    sym (signed-bits f) ∙ ap signed_of back
+pub signed-cast : (w : ℕ) → to_z w32 w ≡ signed_of w
+signed-cast w = elim (dec_lt w 2147483648) [
+  | yes l ↦ rw (lt-ltb w 2147483648 l) (sym (signed_low w l))
+  | no n ↦
+      let h : 2147483648 ≤ w = omega arith in
+      let e : 4294967296 - suc w ≡ 4294967295 - w = omega arith in
+      rw (le-ltb w 2147483648 h) (ap negsuc e ∙ sym (signed_high w h))
+]

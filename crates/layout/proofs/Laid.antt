@@ -1,15 +1,15 @@
 -- Records laid one behind the other, from a place in bytes on.
 --     Lays s at row n t i    the invariant of a loop that lays them: t is s with the first i
---     lays-start, lays-length, lays_step, lays-done, lays-front    its laws
+--     lays-start, lays_step, lays-done    its laws
+--     laid-front             a row laid from the front on
 -- A turn lays 16 bytes behind those laid before it (`over-over`). Assumes nothing.
 use Rattle.std.proofs.Common.{◌≡◌, ℕ, suc, ◌+◌, ◌*◌, ◌<◌, ◌≤◌, List, [], ◌∷◌, ◌++◌, length, drop, sym, ap, ◌∙◌}
 use Rattle.std.proofs.Common.{append-nil, add-one, arith}
 use mathlib.Core.List.{flat_map}
-use native.Mathlib.Decide.{dec_lt}
 use Rattle.record.specs.declared.Peak.{Peak}
 use Rattle.layout.specs.Layout.{bytes_of, fields_of, all_fields_of}
 use Rattle.words.specs.Words.{over}
-use Rattle.words.proofs.Over.{over-front, over-length, over-over}
+use Rattle.words.proofs.Over.{over-front, over-over}
 use Rattle.layout.proofs.Over.{over-nil}
 use Rattle.layout.proofs.Rows.{four-length, four-append, record-four, bytes-length, bytes-append}
 use Rattle.table.proofs.Grows.{Grows, grows-length}
@@ -45,19 +45,6 @@ module _ {row : ℕ → List Peak} {peak : ℕ → Peak} {n : ℕ} (g : Grows ro
   }
 
   module _ {t : List ℕ} {i : ℕ} (h : Lays s at row n t i) (room : 0 < n → at + 16 * n ≤ length s) where
-    pub lays-length : length t ≡ length s
-    lays-length =
-        let b = h.below in
-        elim (dec_lt 0 n) [
-          | yes l ↦
-              ap length h.bytes
-              ∙ over-length s at (bytes_of (all_fields_of (row i))) (omega (arith, row-bytes g i b, room l))
-          | no m ↦
-              let e : 0 ≡ i = omega arith in
-              ap length (h.bytes ∙ ap (λ (k : ℕ). over s at (bytes_of (all_fields_of (row k)))) (sym e)
-              ∙ sym lays-start.bytes)
-        ]
-
     pub lays_step : {u : List ℕ} {p : Peak} {place : ℕ} → i < n → p ≡ peak i → place ≡ at + 16 * i
         → u ≡ over t place (bytes_of (fields_of p)) → Lays s at row n u (i + 1)
     lays_step {u} {p} {place} here e q f =
@@ -78,9 +65,10 @@ module _ {row : ℕ → List Peak} {peak : ℕ → Peak} {n : ℕ} (g : Grows ro
       let e : i ≡ n = omega arith in
       h.bytes ∙ ap (λ (k : ℕ). over s at (bytes_of (all_fields_of (row k)))) e
 
--- laid from the front on
-pub lays-front : {row : ℕ → List Peak} {peak : ℕ → Peak} {n : ℕ} → Grows row peak n → {s t : List ℕ} {i : ℕ}
-    → Lays s 0 row n t i → n ≤ i → t ≡ bytes_of (all_fields_of (row n)) ++ drop (16 * n) s
-lays-front {row} {n = n} g {s} h l =
-    lays-done g h l ∙ over-front s (bytes_of (all_fields_of (row n)))
-    ∙ ap (λ (k : ℕ). bytes_of (all_fields_of (row n)) ++ drop k s) (row-bytes g n (omega arith))
+-- a row laid from the front on
+pub laid-front : (s : List ℕ) (ps : List Peak)
+    → over s 0 (bytes_of (all_fields_of ps)) ≡ bytes_of (all_fields_of ps) ++ drop (16 * length ps) s
+laid-front s ps =
+    over-front s (bytes_of (all_fields_of ps))
+    ∙ ap (λ (k : ℕ). bytes_of (all_fields_of ps) ++ drop k s)
+    (omega (arith, bytes-length (all_fields_of ps), four-length fields_of record-four ps))

@@ -2,6 +2,7 @@
 --     written_told a, read_told a             what an answer tells the caller
 --     write_tests rows cells n unsound room   the order of refusals of `write`, for so many cells, records and bytes of
 --                                             room, at the index of the first unsound record
+--     run_of rows columns peaks               the answer of `read` that is a run
 --     miscounted f cells n                    the header of f is not that of so many cells and records
 --     read_tests f heights table unsound      the order of refusals of `read`, for so many lent heights and table
 --                                             entries
@@ -11,6 +12,7 @@
 --     bytes_after a records table             the bytes of a table after an answer that hands out these records
 --     HandsBytes                              `Hands` of `table`, with the table as bytes and the answer as that number
 -- Assumes nothing.
+use Rattle.std.specs.Prelude.{Result, Ok, Err}
 use Rattle.std.specs.Prelude.{◌≡◌, ℕ, zero, suc, ◌+◌, ◌*◌, ◌/◌, ◌%◌, Bool, not, ◌||◌, List, [], ◌∷◌, ◌++◌, map, length}
 use Rattle.std.specs.Prelude.{drop, ℤ, pos, negsuc, ◌==◌, nat_lt, slice_index}
 use Rattle.relief.specs.Peaks.{Entry}
@@ -21,21 +23,18 @@ use Rattle.record.specs.declared.Refusal.TheVariants.{Unsound, Room}
 use Rattle.record.specs.Records.{record_of}
 use Rattle.record.specs.Refusals.{Told, granted, told_of, told_by, bad_rows}
 use Rattle.words.specs.Words.{word_at}
+use Rattle.layout.specs.declared.ReadBack.{ReadBack}
 use Rattle.table.specs.Promises.{handed_by, Worked}
 use Rattle.sound.specs.Sound.{FirstUnsound}
-use Rattle.layout.specs.declared.Written.{Written}
-use Rattle.layout.specs.declared.Written.TheVariants as written
-use Rattle.layout.specs.declared.ReadBack.{ReadBack}
-use Rattle.layout.specs.declared.ReadBack.TheVariants as read_back
 use Rattle.layout.specs.Layout.{bytes_of, all_fields_of, total_of, rows_in, columns_in, peaks_in, cells_in, heights_in}
 use Rattle.layout.specs.Layout.{records_from}
 
 -- ---- writing
 
 -- the bytes of the file
-abbrev pub written_told : Written → Told
-written_told (written.Bytes n) = granted (n ∷ [])
-written_told (written.Refused r) = told_of r
+abbrev pub written_told : Result ℕ Refusal → Told
+written_told (Ok n) = granted (n ∷ [])
+written_told (Err r) = told_of r
 
 -- "Write file: 1, 2, 3, 12, 13." `unsound` is the index of the first record that is not sound, or n.
 unfoldable pub write_tests : ℕ → ℕ → ℕ → ℕ → ℕ → List (Bool × Refusal)
@@ -53,16 +52,20 @@ write_tests rows cells n unsound room =
     ∷ []
 
 -- "A refusal [..] writes nothing".
-abbrev pub room_after : Written → List ℕ → List ℕ → List ℕ
-room_after (written.Bytes total) new old = new
-room_after (written.Refused r) new old = old
+abbrev pub room_after : Result ℕ Refusal → List ℕ → List ℕ → List ℕ
+room_after (Ok total) new old = new
+room_after (Err r) new old = old
 
 -- ---- reading
 
+-- the answer that is a run
+abbrev pub run_of : ℕ → ℕ → ℕ → Result ReadBack Refusal
+run_of rows columns peaks = Ok (record { rows = rows; columns = columns; peaks = peaks })
+
 -- "Reading hands back rows, columns and n"
-abbrev pub read_told : ReadBack → Told
-read_told (read_back.Run rows columns peaks) = granted (rows ∷ columns ∷ peaks ∷ [])
-read_told (read_back.Refused r) = told_of r
+abbrev pub read_told : Result ReadBack Refusal → Told
+read_told (Ok run) = granted (run.rows ∷ run.columns ∷ run.peaks ∷ [])
+read_told (Err r) = told_of r
 
 -- "n above the cell count, or an offset or total not as computed"
 unfoldable pub miscounted : List ℕ → ℕ → ℕ → Bool
@@ -92,12 +95,12 @@ read_tests f heights table unsound =
     ∷ []
 
 -- "A refusal [..] writes nothing".
-abbrev pub lent_after : {A : Type 0} → ReadBack → List A → List A → List A
-lent_after (read_back.Run rows columns peaks) new old = new
-lent_after (read_back.Refused r) new old = old
+abbrev pub lent_after : {A : Type 0} → Result ReadBack Refusal → List A → List A → List A
+lent_after (Ok run) new old = new
+lent_after (Err r) new old = old
 
 -- The answer to the file f, whatever its header says.
-pub record ReadAnswers (f : List ℕ) (heights table : ℕ) (a : ReadBack) : Type 0 where
+pub record ReadAnswers (f : List ℕ) (heights table : ℕ) (a : Result ReadBack Refusal) : Type 0 where
   pub unsound : ℕ
   pub first : FirstUnsound (heights_in f (cells_in f)) (records_from f (cells_in f) (peaks_in f)) unsound
   pub answered :

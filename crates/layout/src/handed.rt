@@ -5,7 +5,8 @@ ghost use Rattle.layout.specs.Promises.{signed_told};
 ghost use Rattle.layout.specs.Inner.{Handable, HandedOut};
 
 use crate::records::lay_records;
-use record::{Handed, Refusal};
+use record::Refusal;
+use table::Listed;
 
 // Minus the number of a refusal.
 pub fn refused_number(refusal: Refusal) -> i64
@@ -14,24 +15,32 @@ pub fn refused_number(refusal: Refusal) -> i64
     0 - record::number(refusal) as i64
 }
 
-// The record count, or minus the number of a refusal.
-fn handed_number(handed: Handed) -> i64
-    ensures { result ≡ signed_told (handed_told handed) }
+// The count that is handed out, or minus the number of a refusal.
+pub fn answer_number(answer: Result<u32, Refusal>) -> i64
+    ensures { result ≡ signed_told (handed_told answer) }
 {
-    match handed {
-        Handed::Count(n) => n as i64,
-        Handed::Refused(refusal) => refused_number(refusal),
+    match answer {
+        Ok(count) => count as i64,
+        Err(refusal) => refused_number(refusal),
     }
 }
 
 // Lays the records that an answer hands out, which stand in the work area of so many cells, into a table of bytes, and
 // answers the signed number.
-pub fn hand_out(table: &mut [u8], work: &[u8], cells: usize, handed: Handed) -> i64
+pub fn hand_out(table: &mut [u8], work: &[u8], cells: usize, handed: Result<u32, Refusal>) -> i64
     requires { Handable handed work.now cells table.old }
     ensures { HandedOut handed work.now cells table.old table.new result }
 {
-    let read = table::cells_of(handed, cells);
-    let count = table::count_of(handed);
-    lay_records(table, work, read, count);
-    handed_number(handed)
+    match handed {
+        Ok(count) => {
+            let listed = Listed {
+                work,
+                n: cells,
+                count: words::index(count),
+            };
+            lay_records(table, 0, listed);
+            count as i64
+        }
+        Err(refusal) => refused_number(refusal),
+    }
 }

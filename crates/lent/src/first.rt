@@ -1,41 +1,32 @@
-// The first lister, asked through its public calls, with its records in the second one's form.
-ghost use Rattle.std.specs.Prelude.{◌≤◌};
-
-use crate::lend;
-use crate::row::{Row, copy, kept, marked};
-use record::{Handed, Refusal};
-use run::Run;
+// The first lister, asked through its public calls, each lent a real row of records, with its records in the second
+// one's form.
+use crate::row;
+use crate::row::{Row, marked};
+use crate::told::Told;
+use record::Refusal;
+use run::{Run, Step};
 use second::Records;
-
-// What a call tells: the number of its refusal, 0 for none, how many records it has, and whether all that it does not
-// fill is as it was. At a refusal the number is that which it also returns: at 5 the records that are needed.
-#[derive(Clone, Copy)]
-pub struct Told {
-    pub refusal: u32,
-    pub count: usize,
-    pub kept: bool,
-}
+use second_refusals::Grown;
 
 // The run record after a call, and what the call tells.
-#[derive(Clone, Copy)]
+#[derive(Drop)]
 pub struct Stepped {
     pub run: Run,
-    pub told: Told,
+    pub told: Told<Records>,
 }
 
 // The whole-grid call, with a row of `room` entries.
+// Three calls with their own arguments: a closure over the lent row would be as long at each.
 pub fn whole(
     rows: u32,
     heights: &[i32],
     threshold: u32,
     work: &mut [u8],
     room: usize,
-    out: &mut Records,
-) -> Told {
-    let listed = lend::list(rows, heights, threshold, work, marked(), within(room));
-    let handed = listed.handed;
-    let row = listed.row;
-    answered(handed, row, out)
+) -> Told<Records> {
+    let mut row = marked();
+    let handed = list::list(rows, heights, threshold, work, &mut row[..room.min(64)]);
+    answered(handed, &row)
 }
 
 // The column call.
@@ -45,82 +36,50 @@ pub fn column(
     grid: &mut [i32],
     work: &mut [u8],
     room: usize,
-    out: &mut Records,
 ) -> Stepped {
-    read_off(
-        lend::column(run, offered, grid, work, marked(), within(room)),
-        out,
-    )
+    let mut row = marked();
+    let step = run::column(run, offered, grid, work, &mut row[..room.min(64)]);
+    told_by(step, &row)
 }
 
 // The end call.
-pub fn end(run: Run, grid: &[i32], work: &mut [u8], room: usize, out: &mut Records) -> Stepped {
-    read_off(lend::end(run, grid, work, marked(), within(room)), out)
+pub fn end(run: Run, grid: &[i32], work: &mut [u8], room: usize) -> Stepped {
+    let mut row = marked();
+    let step = run::end(run, grid, work, &mut row[..room.min(64)]);
+    told_by(step, &row)
 }
 
 // A run record at T = 1.
 pub fn taken(rows: u32, columns: u32, ended: bool) -> Run {
-    let mut run = Run::growing(rows, columns, 1);
-    run.ended = ended;
-    run
+    Run {
+        ended,
+        ..Run::growing(rows, columns, 1)
+    }
 }
 
-// A number of entries that a row has.
-pub fn within(room: usize) -> usize
-    ensures { result ≤ 64 }
-{
-    if room > 64 {
-        return 64;
+// A run as the second lister's refusals go by it, with a grid of so many cells lent to it.
+pub fn grown(run: Run, grid: usize) -> Grown {
+    Grown {
+        rows: run.rows,
+        columns: run.columns,
+        ended: run.ended,
+        grid,
     }
-    room
 }
 
 // What a call on a run tells.
-fn read_off(back: lend::Stepped, out: &mut Records) -> Stepped {
-    let step = back.step;
-    let row = back.row;
-    let after = step.run;
-    let handed = step.handed;
-    let told = answered(handed, row, out);
+fn told_by(step: Step, row: &Row) -> Stepped {
     Stepped {
-        run: after,
-        told: told,
+        run: step.run,
+        told: answered(step.handed, row),
     }
 }
 
-// What a call tells that hands out records.
-fn answered(handed: Handed, row: Row, out: &mut Records) -> Told {
-    match handed {
-        Handed::Count(n) => handed_out(n as usize, row, out),
-        Handed::Refused(refusal) => told_of(refusal, kept(row, 0)),
-    }
-}
-
-// What an accepted call tells, its records copied out of the row.
-fn handed_out(count: usize, row: Row, out: &mut Records) -> Told {
-    copy(row, count, out);
+// What a call tells that hands out records, those copied out of the row.
+fn answered(handed: Result<u32, Refusal>, row: &Row) -> Told<Records> {
+    let answer = handed.map(|count| row::records(row, count as usize));
     Told {
-        refusal: 0,
-        count: count,
-        kept: kept(row, count),
-    }
-}
-
-// What a refused call tells, where all is as it was or not.
-pub fn told_of(refusal: Refusal, kept: bool) -> Told {
-    Told {
-        refusal: record::number(refusal),
-        count: also(refusal),
-        kept: kept,
-    }
-}
-
-// What a refusal also returns.
-fn also(refusal: Refusal) -> usize {
-    match refusal {
-        Refusal::Table { needed } => needed as usize,
-        Refusal::Unsound { index } => index as usize,
-        Refusal::Room { needed } => needed as usize,
-        _ => 0,
+        answer,
+        kept: row::kept(row, handed.unwrap_or(0) as usize),
     }
 }

@@ -2,14 +2,10 @@
 // mark before the call, so that what the call does not count is seen to stay.
 #![tactic(auto)]
 
-use account::{Accounted, Verdict};
-use second::{BLANK, MAX, WORK, least};
-use second_accounts::{Account, Row, empty, number_at};
-
-// What stands for the number of a refusal where the check says no, and where the listers differ. No refusal has it.
-pub const NO: u32 = 98;
-
-pub const DIFFER: u32 = 99;
+use account::Given;
+use record::Refusal;
+use second::{BLANK, MAX, WORK};
+use second_accounts::Account;
 
 // What a room holds that no call has filled. No grid of the second lister has such a cell.
 const MARK: u32 = 77;
@@ -35,203 +31,138 @@ type Room = [u32; MAX];
 // What the first lister answers, and the rooms after it.
 #[derive(Clone, Copy)]
 struct Drawn {
-    answer: Accounted,
+    answer: Result<Given, Refusal>,
     path: Room,
     island: Room,
 }
 
-// The number of the refusal of an account call, where that is the account of the second lister. It is 0 for none, and
-// `DIFFER` where the listers differ, in the account too, or where a number of a room has changed that should not.
-pub fn refusal(asked: Asked, heights: &[i32], rooms: Rooms, account: Account) -> u32 {
-    let number = refusal_by_second(asked, heights, rooms);
-    let drawn = account_by_first(asked, heights, rooms);
-    if tells(drawn, number, account) {
-        return number;
-    }
-    DIFFER
-}
-
-// What the check says to an account: the number of its refusal, 0 for yes, `NO` for no, and `DIFFER` where the listers
-// differ.
-pub fn verdict(asked: Asked, heights: &[i32], account: Account) -> u32 {
-    let number = verdict_by_second(asked, heights, account);
-    if number_of(verdict_by_first(asked, heights, account)) == number {
-        return number;
-    }
-    DIFFER
-}
-
-// A call about a cell with a work area that is just enough for so many cells. There are never more cells than the
-// second lister takes.
-pub fn enough(rows: u32, cells: usize, cell: u32) -> Asked {
-    Asked {
-        rows: rows,
-        cell: cell,
-        bytes: least(cells, MAX) * 16,
-    }
-}
-
-// Rooms that are just enough for so many cells.
-pub fn room_for(cells: usize) -> Rooms {
-    Rooms {
-        path: cells,
-        island: cells,
-    }
-}
-
 // What stands for an account where there is none.
-pub fn no_account() -> Account {
+pub fn no_account() -> Account<'static> {
     Account {
-        key: BLANK,
-        path: empty(),
-        island: empty(),
+        key: None,
+        path: &[],
+        island: &[],
     }
 }
 
-// Whether the cell is a peak's.
-pub fn is_peak(asked: Asked, heights: &[i32]) -> bool {
-    second::is_peak(asked.rows as usize, heights, asked.cell as usize)
-}
-
-// ---- the second lister
-
-fn refusal_by_second(asked: Asked, heights: &[i32], rooms: Rooms) -> u32 {
-    let bytes = asked.bytes;
-    second_refusals::account_refusal(
-        asked.rows,
-        heights.len(),
-        bytes / 4,
-        is_peak(asked, heights),
-        rooms.path,
-        rooms.island,
-    )
-}
-
-fn verdict_by_second(asked: Asked, heights: &[i32], account: Account) -> u32 {
-    let bytes = asked.bytes;
-    let refused = second_refusals::check_refusal(
-        asked.rows,
-        heights.len(),
-        bytes / 4,
-        is_peak(asked, heights),
-    );
-    if refused != 0 {
-        return refused;
-    }
-    if second_accounts::accepts(asked.rows as usize, heights, asked.cell as usize, account) {
-        return 0;
-    }
-    NO
-}
-
-// ---- the first lister
-
-fn account_by_first(asked: Asked, heights: &[i32], rooms: Rooms) -> Drawn {
-    let mut work = [0u8; WORK];
-    let mut path = [MARK; MAX];
-    let mut island = [MARK; MAX];
-    let area = least(asked.bytes, WORK);
-    let steps = least(rooms.path, MAX);
-    let cells = least(rooms.island, MAX);
-    let answer = account::account(
-        asked.rows,
-        heights,
-        asked.cell,
-        &mut work[0..area],
-        &mut path[0..steps],
-        &mut island[0..cells],
-    );
-    Drawn {
-        answer: answer,
-        path: path,
-        island: island,
-    }
-}
-
-fn verdict_by_first(asked: Asked, heights: &[i32], account: Account) -> Verdict {
-    let mut work = [0u8; WORK];
-    let path = account.path;
-    let island = account.island;
-    let steps = path.numbers;
-    let cells = island.numbers;
-    let area = least(asked.bytes, WORK);
-    account::check(
-        asked.rows,
-        heights,
-        asked.cell,
-        account.key,
-        front(&steps, path.count),
-        front(&cells, island.count),
-        &mut work[0..area],
-    )
-}
-
-// The first numbers of a room.
-fn front<'a>(room: &'a Room, count: usize) -> &'a [u32] {
-    let all: &'a [u32] = room;
-    if count <= all.len() {
-        return &all[0..count];
-    }
-    all
-}
-
-fn number_of(verdict: Verdict) -> u32 {
-    match verdict {
-        Verdict::Yes => 0,
-        Verdict::No => NO,
-        Verdict::Refused(refusal) => record::number(refusal),
-    }
-}
-
-// ---- compared
-
-// Whether the first lister tells what the second one does: the refusal, or the account; and whether all other numbers
-// of the rooms are as they were.
-fn tells(drawn: Drawn, number: u32, account: Account) -> bool {
-    let answer = drawn.answer;
-    let path = drawn.path;
-    let island = drawn.island;
-    if number != 0 {
-        return refuses(answer, number) && holds(&path, empty()) && holds(&island, empty());
-    }
-    gives(answer, account) && holds(&path, account.path) && holds(&island, account.island)
-}
-
-fn refuses(answer: Accounted, number: u32) -> bool {
-    match answer {
-        Accounted::Given {
-            key: _,
-            path: _,
-            island: _,
-        } => false,
-        Accounted::Refused(refusal) => record::number(refusal) == number,
-    }
-}
-
-fn gives(answer: Accounted, account: Account) -> bool {
-    let steps = account.path;
-    let cells = account.island;
-    match answer {
-        Accounted::Given { key, path, island } => {
-            key == account.key && path as usize == steps.count && island as usize == cells.count
+impl Rooms {
+    // Rooms that are just enough for so many cells.
+    pub fn enough(cells: usize) -> Rooms {
+        Rooms {
+            path: cells,
+            island: cells,
         }
-        Accounted::Refused(_) => false,
+    }
+}
+
+impl Asked {
+    // A call about a cell with a work area that is just enough for so many cells. There are never more cells than the
+    // second lister takes.
+    pub fn enough(rows: u32, cells: usize, cell: u32) -> Asked {
+        Asked {
+            rows,
+            cell,
+            bytes: cells.min(MAX) * 16,
+        }
+    }
+
+    // What an account call is answered, where that is the account of the second lister: the number of a refusal as an
+    // error. There is no answer where the listers differ, in the account too, or where a number of a room has changed
+    // that should not.
+    pub fn answer(
+        self,
+        heights: &[i32],
+        rooms: Rooms,
+        account: Account,
+    ) -> Option<Result<(), u32>> {
+        let answer = second_refusals::account_call(
+            self.rows,
+            heights.len(),
+            self.bytes / 4,
+            self.is_peak(heights),
+            rooms.path,
+            rooms.island,
+        );
+        self.drawn(heights, rooms)
+            .tells(answer, account)
+            .then_some(answer)
+    }
+
+    // What the check says to an account, where both listers say it: yes or no, or the number of a refusal as an error.
+    pub fn verdict(self, heights: &[i32], account: Account) -> Option<Result<bool, u32>> {
+        let verdict = self.verdict_by_second(heights, account);
+        (self.verdict_by_first(heights, account) == verdict).then_some(verdict)
+    }
+
+    // Whether the cell is a peak's.
+    fn is_peak(self, heights: &[i32]) -> bool {
+        second::is_peak(self.rows as usize, heights, self.cell as usize)
+    }
+
+    fn verdict_by_second(self, heights: &[i32], account: Account) -> Result<bool, u32> {
+        let peak = self.is_peak(heights);
+        second_refusals::check_call(self.rows, heights.len(), self.bytes / 4, peak)?;
+        Ok(second_accounts::accepts(self.rows as usize, heights, self.cell as usize, account))
+    }
+
+    fn verdict_by_first(self, heights: &[i32], account: Account) -> Result<bool, u32> {
+        let mut work = [0u8; WORK];
+        account::check(
+            self.rows,
+            heights,
+            self.cell,
+            account.key.unwrap_or(BLANK),
+            account.path,
+            account.island,
+            &mut work[..self.bytes.min(WORK)],
+        )
+        .map_err(record::number)
+    }
+
+    // What the first lister answers to an account call.
+    fn drawn(self, heights: &[i32], rooms: Rooms) -> Drawn {
+        let mut work = [0u8; WORK];
+        let mut path = [MARK; MAX];
+        let mut island = [MARK; MAX];
+        let answer = account::account(
+            self.rows,
+            heights,
+            self.cell,
+            &mut work[..self.bytes.min(WORK)],
+            &mut path[..rooms.path.min(MAX)],
+            &mut island[..rooms.island.min(MAX)],
+        );
+        Drawn {
+            answer,
+            path,
+            island,
+        }
+    }
+}
+
+impl Drawn {
+    // Whether the first lister tells what the second one does: the refusal, or the account; and whether all other
+    // numbers of the rooms are as they were.
+    fn tells(self, answer: Result<(), u32>, account: Account) -> bool {
+        match (self.answer, answer) {
+            (Ok(Given { key, path, island }), Ok(())) => {
+                key == account.key.unwrap_or(BLANK)
+                    && path as usize == account.path.len()
+                    && island as usize == account.island.len()
+                    && holds(&self.path, account.path)
+                    && holds(&self.island, account.island)
+            }
+            (Err(refusal), Err(number)) => {
+                record::number(refusal) == number
+                    && holds(&self.path, &[])
+                    && holds(&self.island, &[])
+            }
+            _ => false,
+        }
     }
 }
 
 // Whether a room holds the numbers of a row, and behind them what it held before.
-fn holds(room: &Room, row: Row) -> bool {
-    for i in 0..MAX {
-        if room[i] != wanted(row, i) {
-            return false;
-        }
-    }
-    true
-}
-
-fn wanted(row: Row, i: usize) -> u32 {
-    if i >= row.count {
-        return MARK;
-    }
-    number_at(row, i)
+fn holds(room: &Room, row: &[u32]) -> bool {
+    room.iter().enumerate().all(|(i, number)| row.get(i).copied().unwrap_or(MARK) == *number)
 }

@@ -1,114 +1,51 @@
--- Laws of bytes counted or written one behind the other.
---     printed-counted, printed-laid    bytes counted, and bytes laid
---     Left s write at all t m todo     of the bytes `all` for the place `at` of s, just `todo` are still to be printed,
---                                      at the place m of t
---     left-start, left-length, left-fits, left_step, left-done, left-fits-last, left-last    its laws
--- Bytes laid behind those just laid are one row of bytes (`over-over`). Assumes nothing.
-use mathlib.Core.Path.{◌≡◌, refl, sym, ap, ◌∙◌}
-use mathlib.Core.Bool.{Bool, true, false, cond, not}
+-- Laws of bytes put one behind the other.
+--     Left fits gives s all t todo     of the bytes `all` for the sink s just `todo` are still to be put, to t
+--     left-start, left-fits, left_step, left-done, left-fits-last, left-last    its laws
+-- Assumes nothing.
+use mathlib.Core.Path.{◌≡◌, sym, ap, ◌∙◌, subst}
 use mathlib.Core.List.{List, [], ◌++◌, append-nil, append_assoc}
-use Prim.Native.Nat.{ℕ, ◌+◌, ◌≤◌}
-use native.Mathlib.Omega.{arith}
-use borrow.Author.Tests.{not-true, not-false}
+use Prim.Native.Nat.{ℕ}
 use lib.ListN.{length, length-append}
-use Rattle.words.specs.Words.{over}
-use Rattle.words.proofs.Over.{over_none, over-length, over-over}
-use Rattle.lines.specs.Lines.{Fits, Printed}
+use Rattle.lines.specs.Sinks.{IsSink}
 
-pub record Left (s : List ℕ) (write : Bool) (at : ℕ) (all t : List ℕ) (m : ℕ) (todo : List ℕ) : Type 0 where
-  pub fits : Fits s write at (length all)
+pub record Left {S : Type 0} (fits : S → ℕ → Type 0) (gives : S → List ℕ → S → Type 0) (s : S) (all : List ℕ) (t : S)
+    (todo : List ℕ) : Type 0 where
+  pub enough : fits s (length all)
   pub done : List ℕ
   pub split : all ≡ done ++ todo
-  pub printed : Printed s t write at m done
+  pub put : gives s done t
 
--- ---- either way of printing
+module _ {S : Type 0} {fits : S → ℕ → Type 0} {gives : S → List ℕ → S → Type 0} (sink : IsSink fits gives)
+    {s : S} {all : List ℕ} where
+  pub left-start : fits s (length all) → {todo : List ℕ} → all ≡ todo → Left fits gives s all s todo
+  left-start f e = record { enough = f; done = []; split = e; put = sink.none s }
 
-laid_none : (write : Bool) (s : List ℕ) (at : ℕ) → s ≡ cond write (over s at []) s
-laid_none true s at = over_none s at
-laid_none false s at = refl
+  pub left-done : {t : S} → Left fits gives s all t [] → gives s all t
+  left-done {t} l = subst (λ (x : List ℕ). gives s x t) (sym (append-nil l.done) ∙ sym l.split) l.put
 
-laid-length : (write : Bool) (s : List ℕ) (at : ℕ) (bs : List ℕ) → (write ≡ true → at + length bs ≤ length s)
-    → length (cond write (over s at bs) s) ≡ length s
-laid-length true s at bs h = over-length s at bs (h refl)
-laid-length false s at bs h = refl
+  -- all that is left fits
+  pub left-fits-last : {t : S} {todo : List ℕ} → Left fits gives s all t todo → fits t (length todo)
+  left-fits-last {t} {todo} l =
+      let e = ap length l.split ∙ length-append l.done todo in
+      sink.rest s t l.done (length todo) (subst (fits s) e l.enough) l.put
 
-laid_next : (write : Bool) (s : List ℕ) (at : ℕ) (bs : List ℕ) (next : ℕ) (cs : List ℕ)
-    → (write ≡ true → at + length bs ≤ length s) → next ≡ at + length bs
-    → cond write (over (cond write (over s at bs) s) next cs) (cond write (over s at bs) s)
-    ≡ cond write (over s at (bs ++ cs)) s
-laid_next true s at bs next cs h e = over-over s at bs (h refl) next cs e
-laid_next false s at bs next cs h e = refl
+  -- what is put next fits
+  pub left-fits : (bs rest : List ℕ) {t : S} → Left fits gives s all t (bs ++ rest) → fits t (length bs)
+  left-fits bs rest {t} l =
+      sink.front t (length bs) (length rest) (subst (fits t) (length-append bs rest) (left-fits-last l))
 
-module _ {s : List ℕ} {write : Bool} {at r : ℕ} {bs : List ℕ} where
-  pub printed-counted : not write ≡ true → r ≡ at + length bs → Printed s s write at r bs
-  printed-counted w e =
-      record { place = e; room = ap (λ (b : Bool). cond b (over s at bs) s) (sym (not-true write w)) }
-
-  pub printed-laid : not write ≡ false → r ≡ at + length bs → {t : List ℕ} → t ≡ over s at bs
-      → Printed s t write at r bs
-  printed-laid w e l =
-      record { place = e; room = l ∙ ap (λ (b : Bool). cond b (over s at bs) s) (sym (not-false write w)) }
-
--- ---- what is left
-
-module _ {s : List ℕ} {write : Bool} {at : ℕ} {all : List ℕ} where
-  pub left-start : Fits s write at (length all) → {todo : List ℕ} → all ≡ todo → Left s write at all s at todo
-  left-start f e = record {
-    fits = f;
-    done = [];
-    split = e;
-    printed = record { place = omega arith; room = laid_none write s at };
-  }
-
-  done-fits : {t : List ℕ} {m : ℕ} {todo : List ℕ} (l : Left s write at all t m todo)
-      → write ≡ true → at + length l.done ≤ length s
-  done-fits {todo = todo} l e =
-      omega (arith, l.fits.inside e, ap length l.split, length-append l.done todo)
-
-  pub left-length : {t : List ℕ} {m : ℕ} {todo : List ℕ} → Left s write at all t m todo → length t ≡ length s
-  left-length l = ap length l.printed.room ∙ laid-length write s at l.done (done-fits l)
-
-  -- what is printed next fits
-  pub left-fits : (bs rest : List ℕ) {t : List ℕ} {m : ℕ} → Left s write at all t m (bs ++ rest)
-      → Fits t write m (length bs)
-  left-fits bs rest l =
-      let whole = ap length l.split in
-      let parts = length-append l.done (bs ++ rest) in
-      let next = length-append bs rest in
-      let place = l.printed.place in
-      let kept = left-length l in
+  pub left_step : (bs rest : List ℕ) {t u : S} → Left fits gives s all t (bs ++ rest) → gives t bs u
+      → Left fits gives s all u rest
+  left_step bs rest {t} {u} l p =
+      let e = ap length l.split ∙ length-append l.done (bs ++ rest) in
       record {
-        few = omega (arith, l.fits.few);
-        inside = λ e. omega (arith, l.fits.inside e);
+        enough = l.enough;
+        done = l.done ++ bs;
+        split = l.split ∙ sym (append_assoc l.done bs rest);
+        put =
+            sink.more s t u l.done bs (sink.front s (length l.done) (length (bs ++ rest)) (subst (fits s) e l.enough))
+            l.put p;
       }
 
-  pub left_step : (bs rest : List ℕ) {t u : List ℕ} {m r : ℕ} → Left s write at all t m (bs ++ rest)
-      → Printed t u write m r bs → Left s write at all u r rest
-  left_step bs rest {m = m} l p = record {
-    fits = l.fits;
-    done = l.done ++ bs;
-    split = l.split ∙ sym (append_assoc l.done bs rest);
-    printed = record {
-      place = omega (arith, p.place, l.printed.place, length-append l.done bs);
-      room =
-          p.room
-          ∙ ap (λ (x : List ℕ). cond write (over x m bs) x) l.printed.room
-          ∙ laid_next write s at l.done m bs (done-fits l) l.printed.place;
-    };
-  }
-
-  pub left-done : {t : List ℕ} {m : ℕ} → Left s write at all t m [] → Printed s t write at m all
-  left-done l =
-      let e : l.done ≡ all = sym (append-nil l.done) ∙ sym l.split in
-      rw e at l.printed
-
-  -- the last bytes
-  module _ {bs t : List ℕ} {m : ℕ} (l : Left s write at all t m bs) where
-    ended : Left s write at all t m (bs ++ [])
-    ended = rw (append-nil bs) l
-
-    pub left-fits-last : Fits t write m (length bs)
-    left-fits-last = left-fits bs [] ended
-
-    pub left-last : {u : List ℕ} {r : ℕ} → Printed t u write m r bs → Printed s u write at r all
-    left-last p = left-done (left_step bs [] ended p)
+  pub left-last : {bs : List ℕ} {t u : S} → Left fits gives s all t bs → gives t bs u → gives s all u
+  left-last {bs} l p = left-done (left_step bs [] (rw (append-nil bs) l) p)

@@ -1,1 +1,2 @@
-pub mod Lines  -- bytes counted or written
+pub mod Lines  -- what lines are made of
+pub mod Sinks  -- where bytes go

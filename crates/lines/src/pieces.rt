@@ -1,126 +1,93 @@
-// The pieces of a line, counted or written: a byte, the name of a thing, a number, a height.
-ghost use Rattle.std.specs.Prelude.{◌≡◌, [], ◌∷◌, ◌+◌, ◌≤◌, ◌<◌, length};
+// The pieces of a line: a number, a height, and what both lines begin with.
+ghost use Rattle.std.specs.Prelude.{◌≡◌, [], ◌∷◌, ◌++◌, ◌+◌, ◌/◌, ◌%◌, ◌≤◌, ◌<◌, length, drop};
 ghost use Rattle.relief.specs.Outline.{decimal_of, sign_of};
 ghost use Rattle.relief.specs.Heights.{height_of};
-ghost use Rattle.words.specs.Words.{over};
-ghost use Rattle.lines.specs.Lines.{Fits, Printed};
+ghost use Rattle.lines.specs.Lines.{front_of};
+
+use crate::sinks::Sink;
 
 // The level of the height 0.
 const ZERO: u32 = 2147483648;
 
-// One byte.
-pub fn byte(text: &mut [u8], write: bool, at: usize, b: u8) -> usize
-    requires { Fits text.old write at 1 }
-    ensures { Printed text.old text.new write at result (b ∷ []) }
-{
-    if !write {
-        return at + 1;
-    }
-    text[at] = b;
-    at + 1
-}
+// A number of 32 bits has no more digits.
+const DIGITS: usize = 10;
 
-// The name of a peak or of a pass between two spaces. Both begin with the letter p; the other letters are a, b and c.
-pub fn name(text: &mut [u8], write: bool, at: usize, a: u8, b: u8, c: u8) -> usize
-    requires { Fits text.old write at 6 }
-    ensures { Printed text.old text.new write at result (32 ∷ 112 ∷ a ∷ b ∷ c ∷ 32 ∷ []) }
-{
-    if !write {
-        return at + 6;
-    }
-    text[at] = b' ';
-    text[at + 1] = b'p';
-    text[at + 2] = a;
-    text[at + 3] = b;
-    text[at + 4] = c;
-    text[at + 5] = b' ';
-    at + 6
-}
+// The digits of a number and the byte behind them.
+type Field = [u8; 11];
 
 fn digit(v: u32) -> u8
     requires { v < 10 }
     ensures { result ≡ 48 + v }
 {
-    (48 + v) as u8
+    b'0' + v as u8
 }
 
-// How many digits a number has.
-fn digits(v: u32) -> usize
-    ensures { result ≡ length (decimal_of v) }
+// Puts the two digits of a number below 100 at a place.
+fn put_pair(field: &mut Field, at: usize, pair: u32)
+    requires { (pair < 100) × (at + 2 ≤ 10) }
+    ensures { drop at field.new ≡ (48 + pair / 10) ∷ (48 + pair % 10) ∷ drop (at + 2) field.old }
 {
-    if v < 100000 {
-        if v < 100 {
-            if v < 10 {
-                return 1;
-            }
-            return 2;
-        }
-        if v < 1000 {
-            return 3;
-        }
-        if v < 10000 {
-            return 4;
-        }
-        return 5;
-    }
-    if v < 10000000 {
-        if v < 1000000 {
-            return 6;
-        }
-        return 7;
-    }
-    if v < 100000000 {
-        return 8;
-    }
-    if v < 1000000000 {
-        return 9;
-    }
-    10
+    field[at] = digit(pair / 10);
+    field[at + 1] = digit(pair % 10);
 }
 
-// Puts the digits of a number that has so many, from the last to the first.
-fn put_digits(text: &mut [u8], at: usize, count: usize, v: u32)
-    requires { (count ≡ length (decimal_of v)) × (at + count ≤ length text.old) }
-    ensures { text.new ≡ over text.old at (decimal_of v) }
+// Puts the digits of a number before the last byte, from the last to the first, and hands back where they begin.
+// By hand: std prints a number into a `fmt::Write`, whose clauses let any write fail, or into a `String` on the heap.
+fn put_digits(field: &mut Field, v: u32) -> usize
+    ensures begins { result ≤ 10 }
+    ensures digits { drop result field.new ≡ decimal_of v ++ drop 10 field.old }
 {
-    let mut place = at + count;
+    let mut start = DIGITS;
     let mut rest = v;
+    // A `while`: how many pairs there are is known only when none is left.
     while 100 <= rest {
-        let pair = rest % 100;
-        place -= 2;
-        text[place + 1] = digit(pair % 10);
-        text[place] = digit(pair / 10);
-        rest = rest / 100;
+        start -= 2;
+        put_pair(field, start, rest % 100);
+        rest /= 100;
     }
     if 10 <= rest {
-        text[at + 1] = digit(rest % 10);
-        text[at] = digit(rest / 10);
-        return;
+        put_pair(field, start - 2, rest);
+        return start - 2;
     }
-    text[at] = digit(rest);
+    field[start - 1] = digit(rest);
+    start - 1
 }
 
-// A number in decimal.
-pub fn number(text: &mut [u8], write: bool, at: usize, v: u32) -> usize
-    requires { Fits text.old write at (length (decimal_of v)) }
-    ensures { Printed text.old text.new write at result (decimal_of v) }
+// A number in decimal, and the byte behind it.
+pub fn number<S: Sink>(sink: &mut S, v: u32, end: u8)
+    requires { S.fits sink.old (length (decimal_of v ++ end ∷ [])) }
+    ensures { S.put_gives sink.old (decimal_of v ++ end ∷ []) sink.new }
 {
-    let count = digits(v);
-    if !write {
-        return at + count;
+    // A depth, and how many children are left out, mostly have one digit.
+    if v < 10 {
+        return sink.put(&[digit(v), end]);
     }
-    put_digits(text, at, count, v);
-    at + count
+    let mut field = [end; 11];
+    let start = put_digits(&mut field, v);
+    sink.put(&field[start..]);
 }
 
-// A height by its level, with its sign if it is negative.
-pub fn height(text: &mut [u8], write: bool, at: usize, level: u32) -> usize
-    requires { Fits text.old write at (length (sign_of (height_of level))) }
-    ensures { Printed text.old text.new write at result (sign_of (height_of level)) }
+// A height by its level, with its sign if it is negative, and the byte behind it.
+fn height<S: Sink>(sink: &mut S, level: u32, end: u8)
+    requires { S.fits sink.old (length (sign_of (height_of level) ++ end ∷ [])) }
+    ensures { S.put_gives sink.old (sign_of (height_of level) ++ end ∷ []) sink.new }
 {
     if ZERO <= level {
-        return number(text, write, at, level - ZERO);
+        number(sink, level - ZERO, end);
+    } else {
+        sink.put(b"-");
+        number(sink, ZERO - level, end);
     }
-    let at = byte(text, write, at, b'-');
-    number(text, write, at, ZERO - level)
+}
+
+// What both lines begin with: a depth, a name with a space behind it, a cell, its height by its level, and the byte
+// behind it.
+pub fn front<S: Sink>(sink: &mut S, depth: u32, name: &[u8], cell: u32, level: u32, end: u8)
+    requires { S.fits sink.old (length (front_of depth name.now cell level end)) }
+    ensures { S.put_gives sink.old (front_of depth name.now cell level end) sink.new }
+{
+    number(sink, depth, b' ');
+    sink.put(name);
+    number(sink, cell, b' ');
+    height(sink, level, end);
 }

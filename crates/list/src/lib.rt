@@ -1,33 +1,44 @@
-// The whole-grid call: the flat core behind the refusals, and the lent row of records filled from it.
+// The whole-grid call: the flat core behind the refusals, and the lent row of records filled from it. Its parameters
+// are those of document 01 and of the C entry, and no struct.
 #![tactic(auto)]
 
 ghost use Rattle.std.specs.Prelude.{length};
-ghost use Rattle.heights.specs.Inner.{GoodGrid};
 ghost use Rattle.list.specs.Promises.{Lists};
-ghost use Rattle.list.specs.Inner.{ListsFlat};
+ghost use Rattle.list.specs.Inner.{Listable, ListMade, ListsFlat};
 
-use record::{Checked, Handed, Peak};
+use heights::Heights;
+use record::{Peak, Refusal};
 
-// The list of a grid that passed the tests before the work.
-fn flat_good(rows: u32, heights: &[i32], threshold: u32, work: &mut [u8], room: usize) -> Handed
-    requires { GoodGrid rows (length heights.now) (length work.old) }
-    ensures { ListsFlat rows heights.now threshold work.old room work.new result }
+// The list of a grid that passed the tests before the work, wherever its heights stand: the records are left in the
+// work area.
+pub fn made<H: Heights>(
+    rows: u32,
+    heights: H,
+    threshold: u32,
+    work: &mut [u8],
+    room: usize,
+) -> Result<u32, Refusal>
+    requires { Listable rows (length (H.heights heights)) (length work.old) }
+    ensures { ListMade rows (H.heights heights) threshold work.old room work.new result }
 {
-    let n = heights.len();
+    let n = heights.count();
     heights::load(work, heights, n);
     let count = survey::whole(work, n, words::index(rows), threshold);
     table::room_answer(count, room)
 }
 
 // The whole-grid call without the table, of which only the room counts: the records are left in the work area.
-pub fn flat(rows: u32, heights: &[i32], threshold: u32, work: &mut [u8], room: usize) -> Handed
+pub fn flat(
+    rows: u32,
+    heights: &[i32],
+    threshold: u32,
+    work: &mut [u8],
+    room: usize,
+) -> Result<u32, Refusal>
     ensures { ListsFlat rows heights.now threshold work.old room work.new result }
 {
-    let checked = heights::check(rows, heights.len(), work.len());
-    match checked {
-        Checked::Bad(refusal) => Handed::Refused(refusal),
-        Checked::Good => flat_good(rows, heights, threshold, work, room),
-    }
+    heights::check(rows, heights.len(), work.len())?;
+    made(rows, heights, threshold, work, room)
 }
 
 // The whole-grid call: lists the peaks of a grid of `rows` rows into a lent row of records.
@@ -37,14 +48,11 @@ pub fn list(
     threshold: u32,
     work: &mut [u8],
     table: &mut [Peak],
-) -> Handed
+) -> Result<u32, Refusal>
     ensures { Lists rows heights.now threshold work.old work.new
         table.old table.new result }
 {
-    let room = table.len();
-    let answer = flat(rows, heights, threshold, work, room);
-    let cells = table::cells_of(answer, heights.len());
-    let count = table::count_of(answer);
-    table::fill(table, work, cells, count);
-    answer
+    let count = flat(rows, heights, threshold, work, table.len())?;
+    table::fill(table, work, heights.len(), words::index(count));
+    Ok(count)
 }

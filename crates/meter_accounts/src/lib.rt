@@ -2,39 +2,7 @@
 // measured from C++, and answer one signed number, as the C entry does. A C interface for all calls will replace them.
 #![tactic(auto)]
 
-ghost use Rattle.std.specs.Prelude.{◌≡◌};
-ghost use Rattle.layout.specs.Promises.{signed_told};
-ghost use Rattle.account.specs.Promises.{accounted_told, verdict_told};
 ghost use Rattle.meter_accounts.specs.Promises.{MeterAccounts, MeterChecks};
-
-use account::{Accounted, Verdict};
-
-// ---- answers as numbers
-
-fn accounted_number(accounted: Accounted) -> i64
-    ensures { result ≡ signed_told (accounted_told accounted) }
-{
-    match accounted {
-        Accounted::Given {
-            key,
-            path: _,
-            island: _,
-        } => record::level(key) as i64,
-        Accounted::Refused(refusal) => layout::refused_number(refusal),
-    }
-}
-
-fn verdict_number(verdict: Verdict) -> i64
-    ensures { result ≡ signed_told (verdict_told verdict) }
-{
-    match verdict {
-        Verdict::Yes => 1,
-        Verdict::No => 0,
-        Verdict::Refused(refusal) => layout::refused_number(refusal),
-    }
-}
-
-// ---- the calls
 
 // Gives the account of a peak: `account::account`. The answer is the level of the key height, 0 for none, or minus the
 // refusal number; the counts of both rows are not told.
@@ -51,7 +19,7 @@ pub extern "C" fn meter_account(
         path.old path.new island.old island.new result }
 {
     let accounted = account::account(rows, heights, cell, work, path, island);
-    accounted_number(accounted)
+    layout::answer_number(accounted.map(|given| record::level(given.key)))
 }
 
 // Checks an account of a peak: `account::check`. The answer is 1 for yes, 0 for no, or minus the refusal number.
@@ -69,5 +37,5 @@ pub extern "C" fn meter_check(
         work.old work.new result }
 {
     let verdict = account::check(rows, heights, cell, key, path, island, work);
-    verdict_number(verdict)
+    layout::answer_number(verdict.map(|good| good as u32))
 }

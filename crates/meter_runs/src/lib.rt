@@ -5,12 +5,9 @@
 #![tactic(auto)]
 
 ghost use Rattle.std.specs.Prelude.{◌≡◌, ◌+◌, ◌*◌};
-ghost use Rattle.layout.specs.Promises.{signed_told};
 ghost use Rattle.running.specs.Running.{growing_run, with_end};
-ghost use Rattle.outline.specs.Promises.{outlined_told};
 ghost use Rattle.meter_runs.specs.Promises.{MeterColumns, MeterOutlines};
 
-use outline::Outlined;
 use run::Run;
 
 // ---- a column
@@ -39,20 +36,10 @@ pub extern "C" fn meter_column(
 {
     let run = Run::growing(rows, columns, threshold);
     let step = run::column_flat(run, column, grid, work, table.len() / 16);
-    let handed = step.handed;
-    layout::hand_out(table, work, cells_with(rows, columns), handed)
+    layout::hand_out(table, work, cells_with(rows, columns), step.handed)
 }
 
 // ---- the outline
-
-fn outlined_number(outlined: Outlined) -> i64
-    ensures { result ≡ signed_told (outlined_told outlined) }
-{
-    match outlined {
-        Outlined::Bytes(n) => n as i64,
-        Outlined::Refused(refusal) => layout::refused_number(refusal),
-    }
-}
 
 // Outlines a run that has ended: `outline::outline`. The answer is the number of bytes, or minus the refusal number.
 #[unsafe(no_mangle)]
@@ -68,8 +55,9 @@ pub extern "C" fn meter_outline(
     ensures { MeterOutlines (with_end (growing_run rows columns threshold)) grid.now levels
         work.old work.new text.old text.new result }
 {
-    let mut run = Run::growing(rows, columns, threshold);
-    run.ended = true;
-    let outlined = outline::outline(run, grid, levels, work, text);
-    outlined_number(outlined)
+    let run = Run {
+        ended: true,
+        ..Run::growing(rows, columns, threshold)
+    };
+    layout::answer_number(outline::outline(run, grid, levels, work, text))
 }

@@ -1,24 +1,20 @@
--- Loops along a chain of links.
---     steps next n c         how many cells the links lead through from c on: the measure
---     passes-few, peaks-few  no more than all cells
---     Going next n Q c       the invariant: c is where a chain goes on, and Q holds of the row of its cells
---     going_start            it holds where the links lead through a row of cells
---     going-tail, going-now, going_step, going_less, going_done    its laws
--- A turn takes the first cell off the chain. Assumes nothing.
-use mathlib.Core.Path.{◌≡◌, refl, ap, subst}
+-- Walks along links.
+--     passes-few, peaks-few     they lead through no more than all cells
+--     chain-ends                where links lead through a row of cells, a longer walk is the same
+--     walk-end, walk-more       at the end no cell is left, and else one is taken off
+--     ends-step                 the rest of a walk that ends does
+-- Assumes nothing.
+use mathlib.Core.Path.{◌≡◌, refl, sym, ap, ◌∙◌}
 use mathlib.Core.List.{List, [], ◌∷◌}
 use Prim.Native.Nat.{ℕ, zero, suc, ◌≤◌, ◌<◌}
 use native.Mathlib.Decide.{dec_lt}
 use native.Mathlib.Omega.{arith}
 use borrow.Author.Tests.{lt-ltb, le-ltb}
-use lib.ListN.{length}
+use lib.ListN.{length, drop}
 use Rattle.area.specs.Area.{parent_in, pass_in, cell_in}
 use Rattle.kin.specs.Kin.{Chain, walk, passes_in, peaks_in}
 
 -- ---- walks
-
-abbrev pub steps : (ℕ → ℕ) → ℕ → ℕ → ℕ
-steps next n c = length (walk next n n c)
 
 walk-few : (next : ℕ → ℕ) (n most c : ℕ) → length (walk next n most c) ≤ most
 unfolding walk
@@ -44,64 +40,42 @@ pub peaks-few : (s : List ℕ) (n x : ℕ) → length (peaks_in s n x) ≤ n
 unfolding peaks_in
 peaks-few s n x = walk-few (parent_in s n) n n (cell_in (parent_in s n x))
 
--- ---- the invariant
+-- ---- walks that end
 
-pub record Going (next : ℕ → ℕ) (n : ℕ) (Q : List ℕ → Type 0) (c : ℕ) : Type 0 where
-  pub rest : List ℕ
-  pub few : length rest ≤ n
-  pub chain : Chain next n c rest
-  pub whole : Q rest
+module _ (next : ℕ → ℕ) (n : ℕ) where
+  pub walk-end : (most c : ℕ) → n ≤ c → walk next n most c ≡ []
+  unfolding walk
+  walk-end zero c h = refl
+  walk-end (suc most) c h = rw (le-ltb c n h)
 
--- the first cell of a chain, and the others
-record Headed (next : ℕ → ℕ) (n c : ℕ) (l : List ℕ) : Type 0 where
-  pub tail : List ℕ
-  pub split : l ≡ c ∷ tail
-  pub chain : Chain next n (next c) tail
+  pub walk-more : (most c : ℕ) → c < n → walk next n (suc most) c ≡ c ∷ walk next n most (next c)
+  unfolding walk
+  walk-more most c l = rw (lt-ltb c n l)
 
-headed : {next : ℕ → ℕ} {n c : ℕ} {l : List ℕ} → Chain next n c l → c < n → Headed next n c l
-headed (Chain.end h) l = absurd (omega arith)
-headed (Chain.link {l = t} h chain) l = record { tail = t; split = refl; chain = chain }
+  abbrev Ends : ℕ → ℕ → Type 0
+  Ends most c = walk next n most c ≡ walk next n (suc most) c
 
-ended : {next : ℕ → ℕ} {n c : ℕ} {l : List ℕ} → Chain next n c l → n ≤ c → l ≡ []
-ended (Chain.end h) l = refl
-ended (Chain.link h chain) l = absurd (omega arith)
+  tail-ends : (most c : ℕ) → c < n → Ends (suc most) c → Ends most (next c)
+  tail-ends most c l e = ap (drop 1) (sym (walk-more most c l) ∙ e ∙ walk-more (suc most) c l)
 
-module _ {next : ℕ → ℕ} {n : ℕ} {Q : List ℕ → Type 0} where
-  pub going_start : {b c : ℕ} {l : List ℕ} → Chain next n b l → length l ≤ n → c ≡ b → Q l → Going next n Q c
-  going_start {l = l} chain few e q = record { rest = l; few = few; chain = rw e chain; whole = q }
+  ends-longer : (most c : ℕ) → Ends most c → Ends (suc most) c
+  unfolding walk
+  ends-longer zero c e = elim (dec_lt c n) [
+    | yes l ↦ absurd (omega (arith, ap length (e ∙ walk-more 0 c l)))
+    | no h ↦ walk-end 1 c (omega arith) ∙ sym (walk-end 2 c (omega arith))
+  ]
+  ends-longer (suc most) c e = elim (dec_lt c n) [
+    | yes l ↦
+        let ih = ends-longer most (next c) (tail-ends most c l e) in
+        walk-more (suc most) c l ∙ ap (λ t. c ∷ t) ih ∙ sym (walk-more (suc (suc most)) c l)
+    | no h ↦ walk-end (suc (suc most)) c (omega arith) ∙ sym (walk-end (suc (suc (suc most))) c (omega arith))
+  ]
 
-  module _ {c : ℕ} (g : Going next n Q c) where
-    pub going_done : n ≤ c → Q []
-    going_done h = subst Q (ended g.chain h) g.whole
+  pub ends-step : (most c : ℕ) → c < n → Ends most c → Ends most (next c)
+  unfolding walk
+  ends-step zero c l e = absurd (omega (arith, ap length (e ∙ walk-more 0 c l)))
+  ends-step (suc most) c l e = ends-longer most (next c) (tail-ends most c l e)
 
-    module _ (h : c < n) where
-      first : Headed next n c g.rest
-      first = headed g.chain h
-
-      pub going-tail : List ℕ
-      going-tail = first.tail
-
-      pub going-now : Q (c ∷ going-tail)
-      unfolding going-tail
-      going-now = subst Q first.split g.whole
-
-      tail-few : suc (length going-tail) ≤ n
-      unfolding going-tail
-      tail-few = omega (arith, g.few, ap length first.split)
-
-      pub going_step : {d : ℕ} → d ≡ next c → {R : List ℕ → Type 0} → R going-tail → Going next n R d
-      unfolding going-tail
-      going_step e r = record {
-        rest = going-tail;
-        few = omega (arith, tail-few);
-        chain = rw e first.chain;
-        whole = r;
-      }
-
-      pub going_less : {d : ℕ} → d ≡ next c → steps next n d < steps next n c
-      unfolding going-tail
-      going_less e =
-          let long = ap length first.split in
-          let here = ap length (walk-chain g.chain n g.few) in
-          let there = ap length (walk-chain first.chain n (omega (arith, tail-few))) in
-          rw e (omega arith)
+pub chain-ends : {next : ℕ → ℕ} {n c : ℕ} {l : List ℕ} → Chain next n c l → length l ≤ n
+    → walk next n n c ≡ walk next n (suc n) c
+chain-ends {n = n} chain few = walk-chain chain n few ∙ sym (walk-chain chain (suc n) (omega arith))

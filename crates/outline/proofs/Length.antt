@@ -6,8 +6,7 @@
 --     layer-length             the text of a layer: its peaks' lines, their passes' lines, and the text of the next one
 --     layers-length            the text of a layer and those below it: two lines for each entry, one in the first layer
 --     outline-short            the text of an outline has at most 2^27 bytes
---     tops_print-mono          the text of the first tops grows with their number
---     kinned-short             it is short for any number of them
+--     kinned-short             the text of all tops is short
 -- Assumes nothing.
 use mathlib.Core.Path.{◌≡◌, refl, ap, ◌∙◌}
 use mathlib.Core.Bool.{Bool, true}

@@ -1,7 +1,8 @@
-mod Checks  -- the tests, made and passed
+mod Checks  -- the tests passed
 mod Preparing  -- from the tests to the linked peaks
 mod Links  -- the links lead as far down as is asked
 mod Chains  -- loops along a chain of links
+mod Children  -- the peaks under a peak, counted
 mod Prints  -- the loops that print peaks and passes
 mod TopsLoop  -- the tops printed one after the other
 mod Texts  -- the text of the definition is the text by the links

@@ -10,21 +10,19 @@
 --     Prepared                   the listed peaks of the held cells are linked in the work area
 --     Printable, PrintedAll      before and after all is printed, if the room is long enough
 -- Assumes nothing.
-use Rattle.std.specs.Prelude.{◌≡◌, Bool, true, cond, List, [], ◌∷◌, ◌++◌, ℕ, zero, suc, ◌+◌, ◌-◌, ◌*◌, ◌≤◌, ◌<◌, ltb, ℤ}
+use Rattle.record.specs.declared.Refusal.{Refusal}
+use Rattle.std.specs.Prelude.{Result, Ok, Err}
+use Rattle.std.specs.Prelude.{◌≡◌, true, cond, List, [], ◌∷◌, ◌++◌, ℕ, zero, suc, ◌+◌, ◌-◌, ◌*◌, ◌≤◌, ◌<◌, ltb, ℤ}
 use Rattle.std.specs.Prelude.{length, get_or}
 use Rattle.relief.specs.Plane.{touch_of, stage_of}
 use Rattle.relief.specs.Inner.{cut}
 use Rattle.relief.specs.Outline.{peak_line, pass_line, each}
 use Rattle.area.specs.Area.{Area, level_in, parent_in, pass_in, cell_in}
-use Rattle.lines.specs.Lines.{Fits}
 use Rattle.kin.specs.Kin.{Chain, passes_in, peaks_in, children_in, is_top, Kinned}
 use Rattle.record.specs.declared.Refusal.TheVariants.{TextRoom}
-use Rattle.record.specs.declared.Checked.TheVariants.{Good}
 use Rattle.record.specs.Refusals.{first_of}
 use Rattle.running.specs.declared.Run.{Run}
 use Rattle.running.specs.Running.{shape_of, held_of}
-use Rattle.outline.specs.declared.Outlined.{Outlined}
-use Rattle.outline.specs.declared.Outlined.TheVariants.{Bytes, Refused}
 use Rattle.outline.specs.Promises.{outline_tests, text_after}
 
 -- P holds of every cell of the list
@@ -68,30 +66,30 @@ unfoldable pub tops_print : List ℕ → ℕ → ℕ → ℕ → List ℕ
 tops_print s n left zero = []
 tops_print s n left (suc k) = tops_print s n left k ++ top_print s n left k
 
--- `left` levels are left below the depth.
-pub record PeakPrinting (s : List ℕ) (n : ℕ) (room : List ℕ) (write : Bool) (at q depth left : ℕ) : Type 0 where
+-- `left` levels are left below the depth; `fits` says how many bytes fit.
+pub record PeakPrinting (s : List ℕ) (n : ℕ) (fits : ℕ → Type 0) (q depth left : ℕ) : Type 0 where
   pub linked : Linked s n left q
-  pub fits : Fits room write at (length (peak_print s n left depth q))
+  pub enough : fits (length (peak_print s n left depth q))
   pub few : depth + left ≤ 64
 
 -- The peaks of x have a level less below them.
-pub record PassPrinting (s : List ℕ) (n : ℕ) (room : List ℕ) (write : Bool) (at x depth left : ℕ) : Type 0 where
+pub record PassPrinting (s : List ℕ) (n : ℕ) (fits : ℕ → Type 0) (x depth left : ℕ) : Type 0 where
   pub strung : Strung s n x
   pub linked : Every (Linked s n left) (peaks_in s n x)
-  pub fits : Fits room write at (length (pass_print s n (peak_print s n left (suc depth)) depth x))
+  pub enough : fits (length (pass_print s n (peak_print s n left (suc depth)) depth x))
   pub few : depth + left < 64
 
-pub record TopPrinting (s : List ℕ) (n : ℕ) (room : List ℕ) (write : Bool) (at c left : ℕ) : Type 0 where
+pub record TopPrinting (s : List ℕ) (n : ℕ) (fits : ℕ → Type 0) (c left : ℕ) : Type 0 where
   pub area : Area s n
   pub cell : c < n
   pub linked : is_top s n c ≡ true → Linked s n left c
-  pub fits : Fits room write at (length (top_print s n left c))
+  pub enough : fits (length (top_print s n left c))
   pub few : left < 64
 
-pub record TopsPrinting (s : List ℕ) (n : ℕ) (room : List ℕ) (write : Bool) (left : ℕ) : Type 0 where
+pub record TopsPrinting (s : List ℕ) (n : ℕ) (fits : ℕ → Type 0) (left : ℕ) : Type 0 where
   pub area : Area s n
   pub linked : (c : ℕ) → c < n → is_top s n c ≡ true → Linked s n left c
-  pub fits : Fits room write 0 (length (tops_print s n left n))
+  pub enough : fits (length (tops_print s n left n))
   pub few : left < 64
 
 -- The held cells can be surveyed, ..
@@ -104,7 +102,7 @@ pub record Linkable (run : Run) (grid work : ℕ) : Type 0 where
 
 -- .. and so many levels printed.
 pub record GoodOutline (run : Run) (grid levels work : ℕ) : Type 0 where
-  pub good : first_of (outline_tests run grid levels work) ≡ Good
+  pub good : first_of (outline_tests run grid levels work) ≡ Ok tt
   pub linkable : Linkable run grid work
   pub one : 0 < levels
   pub deep : levels ≤ 64
@@ -127,8 +125,8 @@ pub record Printable (s : List ℕ) (n levels : ℕ) : Type 0 where
   pub deep : levels ≤ 64
 
 -- 15 or the number of bytes, and the text room with them.
-pub record PrintedAll (s : List ℕ) (n levels : ℕ) (room room' : List ℕ) (answer : Outlined) : Type 0 where
+pub record PrintedAll (s : List ℕ) (n levels : ℕ) (room room' : List ℕ) (answer : Result ℕ Refusal) : Type 0 where
   pub answered : answer
-      ≡ cond (ltb (length room) (length (tops_print s n (levels - 1) n))) (Refused TextRoom)
-      (Bytes (length (tops_print s n (levels - 1) n)))
+      ≡ cond (ltb (length room) (length (tops_print s n (levels - 1) n))) (Err TextRoom)
+      (Ok (length (tops_print s n (levels - 1) n)))
   pub written : room' ≡ text_after answer (tops_print s n (levels - 1) n) room

@@ -7,6 +7,7 @@
 --     Outlines              the promise: it determines the answer and the text room on all inputs, and all of the work
 --                           area but the bytes that it uses
 -- Assumes nothing.
+use Rattle.std.specs.Prelude.{Result, Ok, Err}
 use Rattle.std.specs.Prelude.{◌≡◌, Bool, not, ◌||◌, List, [], ◌∷◌, ◌++◌, ℕ, ◌*◌, eqb, ltb, ℤ, length, drop}
 use Rattle.relief.specs.Plane.{touch_of, stage_of}
 use Rattle.relief.specs.Outline.{Outline}
@@ -16,13 +17,11 @@ use Rattle.record.specs.Refusals.{Told, granted, told_of, told_by}
 use Rattle.table.specs.Promises.{Worked}
 use Rattle.running.specs.declared.Run.{Run}
 use Rattle.running.specs.Running.{shape_of, held_of, run_tests}
-use Rattle.outline.specs.declared.Outlined.{Outlined}
-use Rattle.outline.specs.declared.Outlined.TheVariants.{Bytes, Refused}
 
 -- the bytes of the text
-abbrev pub outlined_told : Outlined → Told
-outlined_told (Bytes n) = granted (n ∷ [])
-outlined_told (Refused r) = told_of r
+abbrev pub outlined_told : Result ℕ Refusal → Told
+outlined_told (Ok n) = granted (n ∷ [])
+outlined_told (Err r) = told_of r
 
 -- "14 levels outside 1 to 64"
 abbrev pub bad_levels : ℕ → Bool
@@ -45,13 +44,13 @@ abbrev pub outline_by : List (Bool × Refusal) → ℕ → ℕ → Told
 outline_by tests room needed = told_by (tests ++ ((ltb room needed, TextRoom) ∷ [])) (granted (needed ∷ []))
 
 -- "A refusal [..] writes nothing"; "On success [..] bytes [..] beyond those counted stay as they were."
-abbrev pub text_after : Outlined → List ℕ → List ℕ → List ℕ
-text_after (Bytes n) text room = text ++ drop n room
-text_after (Refused r) text room = room
+abbrev pub text_after : Result ℕ Refusal → List ℕ → List ℕ → List ℕ
+text_after (Ok n) text room = text ++ drop n room
+text_after (Err r) text room = room
 
 -- The grid is lent to be read.
 pub record Outlines (run : Run) (grid : List ℤ) (levels : ℕ) (work work' room room' : List ℕ)
-    (answer : Outlined) : Type 0 where
+    (answer : Result ℕ Refusal) : Type 0 where
   pub text : List ℕ
   pub right : Outline (touch_of (shape_of run)) (stage_of (shape_of run) run.columns grid).level run.threshold levels
       text

@@ -1,32 +1,25 @@
 // The text of a whole outline: the tops in reading order, each with what stands under it.
-ghost use Rattle.lines.specs.Lines.{Printed};
 ghost use Rattle.outline.specs.Inner.{TopPrinting, TopsPrinting, top_print, tops_print};
 
 use crate::printers::peak;
+use lines::Sink;
 
-// Prints the cell `c` if it is that of a top, and hands back the place behind it.
-fn top(work: &[u8], n: usize, text: &mut [u8], write: bool, at: usize, c: usize, left: u32) -> usize
-    requires { TopPrinting work.now n text.old write at c left }
-    ensures { Printed text.old text.new write at result
-        (top_print work.now n left c) }
+// Prints the cell `c` if it is that of a top.
+fn top<S: Sink>(work: &[u8], n: usize, sink: &mut S, c: usize, left: u32)
+    requires { TopPrinting work.now n (S.fits sink.old) c left }
+    ensures { S.put_gives sink.old (top_print work.now n left c) sink.new }
 {
-    if !kin::is_top(work, n, c) {
-        return at;
+    if kin::is_top(work, n, c) {
+        peak(work, n, sink, c, 1, left);
     }
-    peak(work, n, text, write, at, c, 1, left)
 }
 
-// Prints the tops, or only counts their bytes, with so many levels below each.
-pub fn tops(work: &[u8], n: usize, text: &mut [u8], write: bool, left: u32) -> usize
-    requires { TopsPrinting work.now n text.old write left }
-    ensures { Printed text.old text.new write 0 result
-        (tops_print work.now n left n) }
+// Prints the tops, with so many levels below each.
+pub fn tops<S: Sink>(work: &[u8], n: usize, sink: &mut S, left: u32)
+    requires { TopsPrinting work.now n (S.fits sink.old) left }
+    ensures { S.put_gives sink.old (tops_print work.now n left n) sink.new }
 {
-    let mut at = 0;
-    let mut c = 0;
-    while c < n {
-        at = top(work, n, text, write, at, c, left);
-        c += 1;
+    for c in 0..n {
+        top(work, n, sink, c, left);
     }
-    at
 }

@@ -1,2 +1,2 @@
 pub mod PlanePlaces  -- the eight places of a plane are what a sweep asks
-pub mod PlaceAnswers  -- the answers of `neighbour`, `is_inner` and `level_at`
+mod PlaceAnswers  -- the answers of `Spot::neighbour` and `place`

@@ -3,23 +3,23 @@
 --     heard t               the refusal that tells t
 --     refusals-differ       two refusals that tell the same are one
 --     handed-differ         and so are two answers of calls that hand out records
---     rows_none .. -known   what `bad_rows` says of a number of rows, and what it tells
+--     rows_right, rows-known    what `bad_rows` says of a number of rows, and what it tells
 -- Assumes nothing.
-use mathlib.Core.Bool.{true, false}
+use mathlib.Core.Bool.{false}
 use mathlib.Core.List.{List, [], ◌∷◌}
 use mathlib.Core.Path.{◌≡◌, refl, sym, ap, ◌∙◌}
 use Prim.Native.Nat.{ℕ, ◌≤◌}
 use native.Mathlib.Omega.{arith}
 use lib.Dec.{eqb, ltb}
 use lib.ListN.{get_or}
-use borrow.Author.Tests.{eq-eqb, ne_eqb, le-ltb, eqb-false, ltb-false}
+use borrow.Author.Tests.{ne_eqb, le-ltb, eqb-false, ltb-false}
 use Rattle.relief.proofs.Tests.{or-false}
 use Rattle.record.specs.declared.Refusal.{Refusal}
 use Rattle.record.specs.declared.Refusal.TheVariants.{Rows, Length, Cells, Work, Table, Ended}
 use Rattle.record.specs.declared.Refusal.TheVariants.{ColumnLength, GridFull, TakenCells, FileLength}
 use Rattle.record.specs.declared.Refusal.TheVariants.{FileCounts, Unsound, Room, Levels, TextRoom, NotEnded}
 use Rattle.record.specs.declared.Refusal.TheVariants.{NoPeak, AccountRoom}
-use Rattle.record.specs.declared.Handed.TheVariants.{Count, Refused}
+use Rattle.std.specs.Prelude.{Ok, Err}
 use Rattle.record.specs.Refusals.{Told, granted, told_of, bad_rows}
 use Rattle.record.specs.Claims.{RefusalsDiffer, HandedDiffer}
 
@@ -81,15 +81,12 @@ told-refused r values e = let h = ap (λ (t : Told). t.number) e in let l = told
     told-some AccountRoom = omega arith
 
 pub handed-differ : HandedDiffer
-handed-differ (Count n) (Count m) e = ap (λ (t : Told). Count (get_or t.values 0 0)) e
-handed-differ (Count n) (Refused r) e = told-refused r (n ∷ []) (sym e)
-handed-differ (Refused r) (Count n) e = told-refused r (n ∷ []) e
-handed-differ (Refused r) (Refused q) e = ap Refused (refusals-differ r q e)
+handed-differ (Ok n) (Ok m) e = ap (λ (t : Told). Ok (get_or t.values 0 0)) e
+handed-differ (Ok n) (Err r) e = told-refused r (n ∷ []) (sym e)
+handed-differ (Err r) (Ok n) e = told-refused r (n ∷ []) e
+handed-differ (Err r) (Err q) e = ap Err (refusals-differ r q e)
 
 -- ---- refusal 1
-
-pub rows_none : {rows : ℕ} → rows ≡ 0 → bad_rows rows ≡ true
-rows_none {rows} e = simp (eq-eqb rows 0 e)
 
 pub rows_right : {rows : ℕ} → (rows ≡ 0 → ⊥) → rows ≤ 1024 → bad_rows rows ≡ false
 rows_right {rows} d l = simp (ne_eqb rows 0 d, le-ltb 1024 rows l)

@@ -7,16 +7,12 @@
 --     told_by tests t   what a call tells by its tests, t where none applies
 --     bad_rows n        what refusal 1 says of a number of rows, as every call does
 -- Assumes nothing.
-use Rattle.std.specs.Prelude.{Bool, cond, ◌||◌, List, [], ◌∷◌, ℕ, eqb, ltb}
+use Rattle.std.specs.Prelude.{Bool, cond, ◌||◌, List, [], ◌∷◌, ℕ, eqb, ltb, Result, Ok, Err}
 use Rattle.record.specs.declared.Refusal.{Refusal}
 use Rattle.record.specs.declared.Refusal.TheVariants.{Rows, Length, Cells, Work, Table, Ended}
 use Rattle.record.specs.declared.Refusal.TheVariants.{ColumnLength, GridFull, TakenCells, FileLength}
 use Rattle.record.specs.declared.Refusal.TheVariants.{FileCounts, Unsound, Room, Levels, TextRoom, NotEnded}
 use Rattle.record.specs.declared.Refusal.TheVariants.{NoPeak, AccountRoom}
-use Rattle.record.specs.declared.Checked.{Checked}
-use Rattle.record.specs.declared.Checked.TheVariants.{Good, Bad}
-use Rattle.record.specs.declared.Handed.{Handed}
-use Rattle.record.specs.declared.Handed.TheVariants.{Count, Refused}
 
 pub record Told : Type 0 where
   pub number : ℕ
@@ -64,18 +60,18 @@ told_of NoPeak = record { number = 17; values = [] }
 told_of AccountRoom = record { number = 18; values = [] }
 
 -- "hands out": how many records
-abbrev pub handed_told : Handed → Told
-handed_told (Count n) = granted (n ∷ [])
-handed_told (Refused r) = told_of r
+abbrev pub handed_told : Result ℕ Refusal → Told
+handed_told (Ok n) = granted (n ∷ [])
+handed_told (Err r) = told_of r
 
 -- "Order where several apply": each test says whether its refusal applies, and the first that does is given.
-unfoldable pub first_of : List (Bool × Refusal) → Checked
-first_of [] = Good
-first_of (test ∷ tests) = cond test.0 (Bad test.1) (first_of tests)
+unfoldable pub first_of : List (Bool × Refusal) → Result (Unit {0}) Refusal
+first_of [] = Ok tt
+first_of (test ∷ tests) = cond test.0 (Err test.1) (first_of tests)
 
-abbrev pub checked_told : Checked → Told → Told
-checked_told Good told = told
-checked_told (Bad r) told = told_of r
+abbrev pub checked_told : Result (Unit {0}) Refusal → Told → Told
+checked_told (Ok _) told = told
+checked_told (Err r) told = told_of r
 
 abbrev pub told_by : List (Bool × Refusal) → Told → Told
 told_by tests told = checked_told (first_of tests) told

@@ -1,15 +1,15 @@
-// The cell and record types, their constants and constructors, level and prominence, answers and refusals.
+// The cell and record types, their constants and constructors, level, height and prominence, and the refusals.
 #![tactic(auto)]
 
-ghost use Rattle.std.specs.Prelude.{not, ◌≡◌, ◌*◌, ◌%◌, eqb, ltb};
+ghost use Rattle.std.specs.Prelude.{true, false, not, ◌≡◌, ◌*◌, ◌%◌, eqb, ltb, MatchResult};
 ghost use Rattle.relief.specs.Heights.{level_of};
 ghost use Rattle.scale.specs.Prominence.{is_mark, Prominent};
 ghost use Rattle.record.specs.Records.{with_key, without_key};
 ghost use Rattle.record.specs.Refusals.{told_of, bad_rows};
-ghost use Rattle.record.specs.Inner.{then_test};
 
 // What a cell of the grid holds: a height, or the blank mark.
-#[derive(Clone, Copy)]
+// A mark and no `Option`: a lent row of heights holds it (document 01), and definitions speak of it (`is_mark`).
+#[derive(Clone, Copy, PartialEq, Eq)]
 pub struct Cell {
     pub height: i32,
 }
@@ -31,7 +31,8 @@ impl Cell {
 }
 
 // The record of a peak: its cell, its height, its key height and its pass cell.
-#[derive(Clone, Copy)]
+// Marks and no `Option`: so are the four numbers of a record in document 01 and in a file (`fields_of`).
+#[derive(Clone, Copy, PartialEq, Eq)]
 pub struct Peak {
     pub cell: u32,
     pub height: i32,
@@ -50,10 +51,10 @@ impl Peak {
         ensures { result ≡ with_key cell height key pass }
     {
         Peak {
-            cell: cell,
-            height: height,
-            key: key,
-            pass: pass,
+            cell,
+            height,
+            key,
+            pass,
         }
     }
 
@@ -62,8 +63,8 @@ impl Peak {
         ensures { result ≡ without_key cell height }
     {
         Peak {
-            cell: cell,
-            height: height,
+            cell,
+            height,
             key: Peak::MISSING_KEY,
             pass: Peak::MISSING_PASS,
         }
@@ -81,6 +82,7 @@ impl Peak {
 const RAISE: i64 = 2147483648;
 
 // The level of a height. The sum is made in 64 bits: half of the levels are above every signed 32-bit number.
+// No `From`: std's types on both sides are not this crate's, and `bits` of `layout` is another number of a height.
 pub fn level(height: i32) -> u32
     ensures { result ≡ level_of height }
 {
@@ -100,15 +102,16 @@ pub fn prominence(height: i32, key: i32) -> u32
     ensures { Prominent height key result }
 {
     if height < key {
-        return 0;
+        0
+    } else {
+        (height as i64 - key as i64) as u32
     }
-    (height as i64 - key as i64) as u32
 }
 
 // Why a call is refused: the cases of document 01's table "What comes back", then those of document 02, in order of
 // their numbers, with what they also return.
 // A number needed fits 32 bits: no file is longer than 24 + 20 x 1,048,576 bytes.
-#[derive(Clone, Copy)]
+#[derive(Clone, Copy, Debug, PartialEq, Eq)]
 pub enum Refusal {
     Rows,
     Length,
@@ -130,36 +133,19 @@ pub enum Refusal {
     AccountRoom,
 }
 
-// What the tests of a call say: none applies, or the first that does refuses it.
-#[derive(Clone, Copy)]
-pub enum Checked {
-    Good,
-    Bad(Refusal),
-}
-
-// One more test behind those that were made: it counts where none of them applies.
-pub fn then_test(checked: Checked, applies: bool, refusal: Refusal) -> Checked
-    ensures { result ≡ then_test checked applies refusal }
+// One test of a call: its refusal, where it applies. Tests stand in the order of the paper, each with a `?`: the first
+// that applies refuses the call.
+pub fn refuse_if(applies: bool, refusal: Refusal) -> Result<(), Refusal>
+    ensures { MatchResult result (λ _. applies ≡ false) (λ r. (r ≡ refusal) × (applies ≡ true)) }
 {
-    match checked {
-        Checked::Bad(_) => checked,
-        Checked::Good => {
-            if applies {
-                return Checked::Bad(refusal);
-            }
-            checked
-        }
-    }
+    if applies { Err(refusal) } else { Ok(()) }
 }
 
 // Whether a number of rows is refused by 1.
 pub fn bad_rows(rows: u32) -> bool
     ensures { result ≡ bad_rows rows }
 {
-    if rows == 0 {
-        return true;
-    }
-    Cell::MAX_ROWS < rows
+    rows == 0 || Cell::MAX_ROWS < rows
 }
 
 // Whether so many numbers do not make whole columns of `rows`. For no rows the answer is the definition's, which no
@@ -168,9 +154,10 @@ pub fn uneven(numbers: usize, rows: usize) -> bool
     ensures { result ≡ not (eqb (numbers % rows) 0) }
 {
     if rows == 0 {
-        return numbers != 0;
+        numbers != 0
+    } else {
+        numbers % rows != 0
     }
-    numbers % rows != 0
 }
 
 // Whether a work area of so many bytes is refused by 4. The bytes are divided: 16 times the cells may not fit.
@@ -180,14 +167,8 @@ pub fn short_work(work: usize, cells: usize) -> bool
     work / 16 < cells
 }
 
-// What a call that fills a peak table answers: how many peaks are handed out, or why it is refused.
-#[derive(Clone, Copy)]
-pub enum Handed {
-    Count(u32),
-    Refused(Refusal),
-}
-
 // The number of a refusal in the documents.
+// No `From`: the pages name this function with its clause, and a second way to the number would be its twin.
 pub fn number(refusal: Refusal) -> u32
     ensures { result ≡ (told_of refusal).number }
 {
@@ -196,15 +177,15 @@ pub fn number(refusal: Refusal) -> u32
         Refusal::Length => 2,
         Refusal::Cells => 3,
         Refusal::Work => 4,
-        Refusal::Table { needed: _ } => 5,
+        Refusal::Table { .. } => 5,
         Refusal::Ended => 6,
         Refusal::ColumnLength => 7,
         Refusal::GridFull => 8,
         Refusal::TakenCells => 9,
         Refusal::FileLength => 10,
         Refusal::FileCounts => 11,
-        Refusal::Unsound { index: _ } => 12,
-        Refusal::Room { needed: _ } => 13,
+        Refusal::Unsound { .. } => 12,
+        Refusal::Room { .. } => 13,
         Refusal::Levels => 14,
         Refusal::TextRoom => 15,
         Refusal::NotEnded => 16,

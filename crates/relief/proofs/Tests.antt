@@ -2,7 +2,6 @@
 --     split s f g                goes by the two cases of a sum
 --     cond-true, cond-false      the first or the second
 --     confirmed, refuted         the answer true decides what holds, and false what does not
---     denies, affirms            what a negated test tells
 --     and, or, not               decide a pair, a sum, a negation
 --     any_below n f, all_below   decide whether some or each number below n passes the test f
 --     first_from k i f           the first of the k numbers from i on that passes, or i + k
@@ -56,12 +55,6 @@ confirmed a = record { holds = λ e. a; fails = λ e. true-not-false refl e }
 
 pub refuted : {A : Type 0} → (A → ⊥) → Decides A false
 refuted n = record { holds = λ e. true-not-false e refl; fails = λ e. n }
-
-pub denies : {A : Type 0} {b : Bool} → Decides A b → not b ≡ true → A → ⊥
-denies {b = b} d e = d.fails (not-true b e)
-
-pub affirms : {A : Type 0} {b : Bool} → Decides A b → not b ≡ false → A
-affirms {b = b} d e = d.holds (not-false b e)
 
 -- ---- tests of numbers
 

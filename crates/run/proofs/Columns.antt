@@ -1,22 +1,19 @@
 -- Column and End once their tests have passed, and where one refuses: the record, the grid and what stands in the work
 -- area. `held` and `r` are the cells held and the rows as the code has them.
---     copied                        the copy of a column
 --     loaded-stage                  the levels loaded are those of a stage
---     column-loading, -surveying    what the calls below ask; end-loading, end-surveying
 --     column-made, end-made         the promise of a call that does its work
 --     column-refused, end_refused   the promise of one that a test refuses
 -- Assumes nothing.
+use Rattle.std.specs.Prelude.{Result, Err}
 use mathlib.Core.Path.{◌≡◌, refl, sym, ◌∙◌, ap, ap₂, subst, subst₂, fun_ext}
 use mathlib.Core.List.{List, ◌++◌}
-use Prim.Native.Nat.{ℕ, suc, ◌+◌, ◌*◌, ◌≤◌, ◌<◌}
-use native.Mathlib.Nat.{suc-mul, mul-one, mul-le-mul_left}
-use native.Mathlib.Numerals.{add-one}
+use Prim.Native.Nat.{ℕ, suc, ◌+◌, ◌*◌, ◌≤◌}
+use native.Mathlib.Nat.{suc-mul}
 use native.Mathlib.Omega.{arith}
 use lib.IntN.{ℤ}
-use lib.ListN.{length, take, get_or, set, length-take}
-use lib.Seq.{paste, paste-suc, length-paste, take-paste, take-length, take-take}
+use lib.ListN.{length, take, length-take}
+use lib.Seq.{paste, take-paste, take-length, take-take}
 use Rattle.relief.specs.Heights.{levels}
-use Rattle.relief.specs.Peaks.{Entry}
 use Rattle.relief.specs.Runs.{Stage, Batch, Rest, Closing, Remaining}
 use Rattle.relief.specs.Plane.{plane_of, touch_of, newest_of, stage_of}
 use Rattle.relief.specs.Inner.{cut}
@@ -25,32 +22,18 @@ use Rattle.relief.proofs.BatchSurvey.{survey_batch, survey_rest, survey-batch, s
 use Rattle.relief.proofs.Levels.{levels-end, levels-take, cut_below, cut-behind}
 use Rattle.relief.proofs.Shapes.{touch?, stage-staged}
 use Rattle.record.specs.declared.Refusal.{Refusal}
-use Rattle.record.specs.declared.Checked.{Checked}
-use Rattle.record.specs.declared.Checked.TheVariants.{Bad}
-use Rattle.record.specs.declared.Handed.{Handed}
-use Rattle.record.specs.declared.Handed.TheVariants.{Refused}
 use Rattle.record.specs.Refusals.{first_of}
 use Rattle.area.specs.Area.{level_in}
-use Rattle.heights.specs.Inner.{Loading, Loaded}
+use Rattle.heights.specs.Inner.{Loaded}
 use Rattle.table.specs.Inner.{room_answer}
 use Rattle.table.proofs.Handed.{worked-late, flat-refused, flat-made}
-use Rattle.survey.specs.Answers.{entries_in, Surveying, Answered, stage_in}
+use Rattle.survey.specs.Answers.{entries_in, Answered, stage_in}
 use Rattle.survey.proofs.Records.{places-record, places-length}
 use Rattle.running.specs.declared.Run.{Run}
 use Rattle.running.specs.Running.{shape_of, held_of, column_tests, end_tests, column_run, end_run}
 use Rattle.run.specs.Promises.{column_grid, heights_with}
 use Rattle.running.specs.Inner.{GoodColumn, GoodEnd}
 use Rattle.run.specs.Inner.{ColumnsFlat, EndsFlat}
-
--- ---- the copy of a column
-
-pub copied : (grid : List ℤ) (at : ℕ) (column : List ℤ) (i : ℕ) (z : ℤ) {now : List ℤ} {v : ℤ}
-    → at + length column ≤ length grid
-    → i < length column → now ≡ paste grid at column i → v ≡ get_or column i z
-    → set now (at + i) v ≡ paste grid at column (i + 1)
-copied grid at column i z {now} {v} fits l e f =
-    ap₂ (λ (g : List ℤ) (x : ℤ). set g (at + i) x) e f ∙ paste-suc grid at column i z (omega arith) l
-    ∙ ap (paste grid at column) (sym (add-one i))
 
 -- ---- stages
 
@@ -81,8 +64,8 @@ module _ (run : Run) (column grid : List ℤ) (room : ℕ) (work : List ℕ) whe
   whole = heights_with run column grid
 
   pub column-refused : {left : List ℕ} {r : Refusal}
-      → first_of (column_tests run (length column) (length grid) (length work)) ≡ Bad r → left ≡ work
-      → ColumnsFlat run column grid grid work room left run (Refused r)
+      → first_of (column_tests run (length column) (length grid) (length work)) ≡ Err r → left ≡ work
+      → ColumnsFlat run column grid grid work room left run (Err r)
   column-refused bad same = record {
     hands = flat-refused (column_tests run (length column) (length grid) (length work))
         (survey_batch (touch? (shape_of run)) (stage_of (shape_of run) run.columns whole)
@@ -90,12 +73,12 @@ module _ (run : Run) (column grid : List ℤ) (room : ℕ) (work : List ℕ) whe
         (survey-batch (stage-staged (shape_of run) run.columns whole)
         (stage-staged (shape_of run) (suc run.columns) whole) run.threshold) bad same;
     run_after = refl;
-    grid_after = ap (λ (c : Checked). column_grid c run column grid) (sym bad);
+    grid_after = ap (λ (c : Result (Unit {0}) Refusal). column_grid c run column grid) (sym bad);
   }
 
   pub end_refused : {left : List ℕ} {r : Refusal}
-      → first_of (end_tests run (length grid) (length work)) ≡ Bad r → left ≡ work
-      → EndsFlat run grid work room left run (Refused r)
+      → first_of (end_tests run (length grid) (length work)) ≡ Err r → left ≡ work
+      → EndsFlat run grid work room left run (Err r)
   end_refused bad same = record {
     hands = flat-refused (end_tests run (length grid) (length work))
         (survey_rest (touch? (shape_of run)) (stage_of (shape_of run) run.columns grid) run.threshold)
@@ -112,43 +95,6 @@ with run = held_of run + run.rows
 module _ (run : Run) (column grid : List ℤ) (work : List ℕ)
     (g : GoodColumn run (length column) (length grid) (length work)) {held r : ℕ} (eh : held ≡ held_of run)
     (er : r ≡ run.rows) where
-  pub column-copying : held + length column ≤ length grid
-  column-copying = let h = g.fits in let i = g.whole in omega arith
-
-  pub column-loading : {copy : List ℤ} → copy ≡ paste grid held column (length column)
-      → Loading work copy (held + r)
-  column-loading e =
-      let l = ap length e ∙ length-paste grid held column (length column) column-copying (omega arith) in
-      let f = g.fits in
-      record {
-        area = record { few = let c = g.cells in omega arith; room = let s = g.space in omega arith };
-        all = omega arith;
-      }
-
-  pub column-surveying : {t : List ℕ} {heights : List ℤ} → Loaded work t heights (held + r)
-      → Surveying t (held + r) r × (held ≤ held + r)
-  column-surveying h = (
-    record {
-      area = record {
-        few = let c = g.cells in omega arith;
-        room = let s = g.space in let l = h.len in omega arith;
-      };
-      rows_some = let i = g.some in omega arith;
-      rows_few = let i = g.few in omega arith;
-    },
-    omega arith,
-  )
-
-  pub column-few : {s t : List ℕ} {P : Entry → Type 0} {k : ℕ} → Answered s t (held + r) P k → k < 4294967296
-  column-few h = let i = h.counted.few in let c = g.cells in omega arith
-
-  pub columns-fit : run.columns + 1 < 4294967296
-  columns-fit =
-      let h : run.columns * 1 ≤ run.columns * run.rows = mul-le-mul_left run.columns g.some in
-      let e = mul-one run.columns in
-      let c = g.cells in
-      omega arith
-
   module _ (room : ℕ) {left t : List ℕ} {copy : List ℤ} {k : ℕ} (ec : copy ≡ paste grid held column (length column))
       (loaded : Loaded work t copy (held + r))
       (made : Answered t left (held + r)
@@ -188,7 +134,7 @@ module _ (run : Run) (column grid : List ℤ) (work : List ℕ)
         (stage_in t (with run) (shape_of run)) run.threshold) k
     made-is = rw (er, eh) at made
 
-    pub column-made : {a : Handed} {run' : Run} → a ≡ room_answer room k → run' ≡ column_run a run
+    pub column-made : {a : Result ℕ Refusal} {run' : Run} → a ≡ room_answer room k → run' ≡ column_run a run
         → ColumnsFlat run column grid copy work room left run' a
     column-made ea ra = record {
       hands = flat-made (column_tests run (length column) (length grid) (length work)) (entries_in left (with run) k)
@@ -197,33 +143,13 @@ module _ (run : Run) (column grid : List ℤ) (work : List ℕ)
           (worked-late g.good (made-is.len ∙ loaded.len) (λ i l. made-is.beyond i l ∙ loaded-is.beyond i l))
           (sym (places-length _ k)) made-is.counted (places-record left (with run) k) ea;
       run_after = ra;
-      grid_after = paste-is ∙ ap (λ (c : Checked). column_grid c run column grid) (sym g.good);
+      grid_after = paste-is ∙ ap (λ (c : Result (Unit {0}) Refusal). column_grid c run column grid) (sym g.good);
     }
 
 -- ---- End
 
 module _ (run : Run) (grid : List ℤ) (work : List ℕ) (g : GoodEnd run (length grid) (length work)) {held : ℕ}
     (eh : held ≡ held_of run) where
-  pub end-loading : Loading work grid held
-  end-loading = record {
-    area = record { few = let c = g.cells in omega arith; room = let s = g.space in omega arith };
-    all = let f = g.fits in omega arith;
-  }
-
-  pub end-surveying : {t : List ℕ} {heights : List ℤ} {r : ℕ} → Loaded work t heights held → r ≡ run.rows
-      → Surveying t held r
-  end-surveying h er = record {
-    area = record {
-      few = let c = g.cells in omega arith;
-      room = let s = g.space in let l = h.len in omega arith;
-    };
-    rows_some = let i = g.some in omega arith;
-    rows_few = let i = g.few in omega arith;
-  }
-
-  pub end-few : {s t : List ℕ} {P : Entry → Type 0} {k : ℕ} → Answered s t held P k → k < 4294967296
-  end-few h = let i = h.counted.few in let c = g.cells in omega arith
-
   module _ (room : ℕ) {left t : List ℕ} {k r : ℕ} (er : r ≡ run.rows) (loaded : Loaded work t grid held)
       (made : Answered t left held
       (Remaining (touch_of (plane_of r)) (stage_in t held (plane_of r)) run.threshold) k) where
@@ -234,7 +160,7 @@ module _ (run : Run) (grid : List ℤ) (work : List ℕ) (g : GoodEnd run (lengt
         (Remaining (touch_of (shape_of run)) (stage_in t (held_of run) (shape_of run)) run.threshold) k
     made_held = rw (er, eh) at made
 
-    pub end-made : {a : Handed} {run' : Run} → a ≡ room_answer room k → run' ≡ end_run a run
+    pub end-made : {a : Result ℕ Refusal} {run' : Run} → a ≡ room_answer room k → run' ≡ end_run a run
         → EndsFlat run grid work room left run' a
     end-made ea ra = record {
       hands = flat-made (end_tests run (length grid) (length work)) (entries_in left (held_of run) k)

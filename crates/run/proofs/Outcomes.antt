@@ -4,6 +4,8 @@
 --     taken-passed                               an accepted call passed its tests
 --     column-takes, column-keeps                 the taken cells after an accepted column, and after a refused one
 -- Assumes nothing.
+use Rattle.record.specs.declared.Refusal.{Refusal}
+use Rattle.std.specs.Prelude.{Result, Ok, Err}
 use mathlib.Core.Path.{◌≡◌, refl, sym, ◌∙◌, ap, ap₂}
 use mathlib.Core.Bool.{Bool, true, false, cond}
 use mathlib.Core.List.{List, ◌++◌}
@@ -18,16 +20,10 @@ use lib.Seq.{paste, take-paste, take-length, take-take, take-append-le}
 use Rattle.relief.proofs.Lists.{order-unique}
 use Rattle.record.specs.declared.Peak.{Peak}
 use Rattle.record.specs.declared.Refusal.TheVariants.{Rows}
-use Rattle.record.specs.declared.Checked.{Checked}
-use Rattle.record.specs.declared.Checked.TheVariants.{Good, Bad}
-use Rattle.record.specs.declared.Handed.{Handed}
-use Rattle.record.specs.declared.Handed.TheVariants.{Count}
 use Rattle.record.specs.Refusals.{Told, first_of, checked_told, bad_rows}
 use Rattle.record.proofs.Refusals.{refusals-differ, told-refused}
 use Rattle.table.proofs.Handed.{told-passed, hands-unique, flat-unique}
 use Rattle.running.specs.declared.Run.{Run}
-use Rattle.run.specs.declared.Started.{Started}
-use Rattle.run.specs.declared.Started.TheVariants as started
 use Rattle.running.specs.Running.{held_of, started_run, column_tests, column_run}
 use Rattle.run.specs.Promises.{started_told, Starts, column_grid}
 use Rattle.running.specs.Running.{end_run}
@@ -48,7 +44,7 @@ heard t = record {
   ended = eqb (get_or t.values 3 0) 1;
 }
 
-heard-told : (run : Run) → heard (started_told (started.Begun run)) ≡ run
+heard-told : (run : Run) → heard (started_told (Ok run)) ≡ run
 unfolding heard
 heard-told run = λ i. record {
   rows = run.rows;
@@ -62,27 +58,27 @@ heard-told run = λ i. record {
     bit false = refl
 
 -- two answers of Start that tell the same are one
-started-differ : (a b : Started) → started_told a ≡ started_told b → a ≡ b
-started-differ (started.Begun r) (started.Begun q) e =
-    ap started.Begun (sym (heard-told r) ∙ ap heard e ∙ heard-told q)
-started-differ (started.Begun r) (started.Refused x) e = told-refused x _ (sym e)
-started-differ (started.Refused x) (started.Begun r) e = told-refused x _ e
-started-differ (started.Refused x) (started.Refused y) e = ap started.Refused (refusals-differ x y e)
+started-differ : (a b : Result Run Refusal) → started_told a ≡ started_told b → a ≡ b
+started-differ (Ok r) (Ok q) e =
+    ap Ok (sym (heard-told r) ∙ ap heard e ∙ heard-told q)
+started-differ (Ok r) (Err x) e = told-refused x _ (sym e)
+started-differ (Err x) (Ok r) e = told-refused x _ e
+started-differ (Err x) (Err y) e = ap Err (refusals-differ x y e)
 
 pub start-unique : StartUnique
 start-unique rows T a b p q = started-differ a b (p ∙ sym q)
 
 -- Start gives the record of zero columns, where it gives one.
-pub start-begun : (rows T : ℕ) (run : Run) → Starts rows T (started.Begun run) → run ≡ started_run rows T
+pub start-begun : (rows T : ℕ) (run : Run) → Starts rows T (Ok run) → run ≡ started_run rows T
 unfolding first_of
 start-begun rows T run s = go (bad_rows rows) refl
   where
     go : (b : Bool) → bad_rows rows ≡ b → run ≡ started_run rows T
-    go true e = told-refused Rows _ (sym (s ∙ ap (λ (x : Bool). checked_told (cond x (Bad Rows) Good)
-        (started_told (started.Begun (started_run rows T)))) e))
+    go true e = told-refused Rows _ (sym (s ∙ ap (λ (x : Bool). checked_told (cond x (Err Rows) (Ok tt))
+        (started_told (Ok (started_run rows T)))) e))
     go false e =
-        let f = s ∙ ap (λ (x : Bool). checked_told (cond x (Bad Rows) Good)
-        (started_told (started.Begun (started_run rows T)))) e in
+        let f = s ∙ ap (λ (x : Bool). checked_told (cond x (Err Rows) (Ok tt))
+        (started_told (Ok (started_run rows T)))) e in
         sym (heard-told run) ∙ ap heard f ∙ heard-told (started_run rows T)
 
 -- ---- Column and End
@@ -91,7 +87,7 @@ pub column-unique : ColumnUnique
 column-unique run run' run'' column grid g h work w v table t u a b p q =
     let (e, f, k) = hands-unique order-unique p.hands q.hands in (
       e,
-      p.run_after ∙ ap (λ (x : Handed). column_run x run) e ∙ sym q.run_after,
+      p.run_after ∙ ap (λ (x : Result ℕ Refusal). column_run x run) e ∙ sym q.run_after,
       p.grid_after ∙ sym q.grid_after,
       f,
       k,
@@ -100,13 +96,13 @@ column-unique run run' run'' column grid g h work w v table t u a b p q =
 pub end-unique : EndUnique
 end-unique run run' run'' grid work w v table t u a b p q =
     let (e, f, k) = hands-unique order-unique p.hands q.hands in
-    (e, p.run_after ∙ ap (λ (x : Handed). end_run x run) e ∙ sym q.run_after, f, k)
+    (e, p.run_after ∙ ap (λ (x : Result ℕ Refusal). end_run x run) e ∙ sym q.run_after, f, k)
 
 pub column-flat-unique : ColumnFlatUnique
 column-flat-unique run run' run'' column grid g h work w v room a b p q =
     let (e, f, k) = flat-unique order-unique p.hands q.hands in (
       e,
-      p.run_after ∙ ap (λ (x : Handed). column_run x run) e ∙ sym q.run_after,
+      p.run_after ∙ ap (λ (x : Result ℕ Refusal). column_run x run) e ∙ sym q.run_after,
       p.grid_after ∙ sym q.grid_after,
       f,
       k,
@@ -115,13 +111,13 @@ column-flat-unique run run' run'' column grid g h work w v room a b p q =
 pub end-flat-unique : EndFlatUnique
 end-flat-unique run run' run'' grid work w v room a b p q =
     let (e, f, k) = flat-unique order-unique p.hands q.hands in
-    (e, p.run_after ∙ ap (λ (x : Handed). end_run x run) e ∙ sym q.run_after, f, k)
+    (e, p.run_after ∙ ap (λ (x : Result ℕ Refusal). end_run x run) e ∙ sym q.run_after, f, k)
 
 -- ---- the taken cells
 
 pub taken-passed : {run run' : Run} {column grid grid' : List ℤ} {work work' : List ℕ} {table table' : List Peak}
     {n : ℕ}
-    → Columns run column grid grid' work work' table table' run' (Count n)
+    → Columns run column grid grid' work work' table table' run' (Ok n)
     → GoodColumn run (length column) (length grid) (length work)
 taken-passed {run} {column = column} {grid} {work = work} {table = table} {n = n} c =
     column-passed run (length column) (length grid) (length work)
@@ -136,7 +132,7 @@ column-takes run run' column grid grid' work work' table table' n c =
     let held : held_of run' ≡ held_of run + length column =
     ap held_of c.run_after ∙ (let e = suc-mul run.columns run.rows in
     let f = ap (λ (k : ℕ). k * run.rows) (add-one run.columns) in omega arith) in
-    ap₂ take held (c.grid_after ∙ ap (λ (x : Checked). column_grid x run column grid) g.good)
+    ap₂ take held (c.grid_after ∙ ap (λ (x : Result (Unit {0}) Refusal). column_grid x run column grid) g.good)
     ∙ take-paste grid (held_of run) column (length column) (omega arith) (omega arith)
     ∙ ap (λ (x : List ℤ). take (held_of run) grid ++ x) (take-length column)
 
@@ -155,10 +151,10 @@ pub column-keeps : ColumnKeeps
 column-keeps run run' column grid grid' work work' table table' r c =
     (c.run_after, ap (take (held_of run)) c.grid_after ∙ go _ refl)
   where
-    go : (x : Checked) → first_of (column_tests run (length column) (length grid) (length work)) ≡ x
+    go : (x : Result (Unit {0}) Refusal) → first_of (column_tests run (length column) (length grid) (length work)) ≡ x
         → take (held_of run) (column_grid x run column grid) ≡ take (held_of run) grid
-    go (Bad q) e = refl
-    go Good e =
+    go (Err q) e = refl
+    go (Ok tt) e =
         let g = column-passed run (length column) (length grid) (length work) e in
         let l = g.fits in
         let w = g.whole in

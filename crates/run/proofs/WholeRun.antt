@@ -4,6 +4,7 @@
 --     calls-told    and that it is known
 --     run_holds     so with End the batches hold the list
 -- Assumes nothing.
+use Rattle.std.specs.Prelude.{Ok}
 use mathlib.Core.Path.{◌≡◌, refl, sym, ◌∙◌, ap, subst, subst₂}
 use mathlib.Core.List.{List, [], ◌∷◌, ◌++◌}
 use Prim.Native.Nat.{ℕ, suc, ◌*◌, ◌≤◌, ◌<◌}
@@ -19,9 +20,7 @@ use Rattle.relief.specs.Runs.{Stage, Batch, Rest}
 use Rattle.relief.specs.Plane.{Shape, touch_of, newest_of, stage_of}
 use Rattle.relief.proofs.Tests.{split, below_suc}
 use Rattle.theorems.proofs.Claims.{shape-touching, claims}
-use Rattle.record.specs.declared.Handed.TheVariants.{Count}
 use Rattle.running.specs.declared.Run.{Run}
-use Rattle.run.specs.declared.Started.TheVariants as started
 use Rattle.running.specs.Running.{shape_of, held_of, column_run}
 use Rattle.run.specs.Promises.{Starts}
 use Rattle.run.specs.WholeRun.{Calls, begun, taken, refused, unended}
@@ -50,7 +49,7 @@ stage-front shape j cells more l = ap
     (sym (take-append-le (j * shape.rows) cells more l))
 
 told_more : (run run' : Run) (cells column : List ℤ) (batches : List (List Entry)) (b : List Entry) (n : ℕ)
-    → Told run cells batches → length column ≡ run.rows → run' ≡ column_run (Count n) run
+    → Told run cells batches → length column ≡ run.rows → run' ≡ column_run (Ok n) run
     → Batch (touch_of (shape_of run)) (stage_of (shape_of run) run.columns (cells ++ column))
     (stage_of (shape_of run) (suc run.columns) (cells ++ column)) run.threshold b
     → Told run' (cells ++ column) (batches ++ (b ∷ []))
@@ -96,7 +95,7 @@ told_more run run' cells column batches b n t e f h =
         (stage-front (shape_of run) (suc j) cells column (omega arith))
         (t.closes j l))
 
-told-begun : (rows T : ℕ) (run : Run) → Starts rows T (started.Begun run) → Told run [] []
+told-begun : (rows T : ℕ) (run : Run) → Starts rows T (Ok run) → Told run [] []
 told-begun rows T run s =
     subst (λ (r : Run). Told r [] []) (sym (start-begun rows T run s)) (record {
       whole = sym (zero-mul rows);

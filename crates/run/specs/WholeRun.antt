@@ -2,6 +2,7 @@
 --     Calls run cells batches     the calls so far gave the record `run`, took `cells` and handed out `batches`
 --     HoldsList                   batches and rest hold just the list of the cells, each peak once
 -- It is over the promises of the calls, and mentions no code. Assumes nothing.
+use Rattle.std.specs.Prelude.{Ok, Err}
 use Rattle.std.specs.Prelude.{◌≡◌, List, [], ◌∷◌, ◌++◌, ◌⊎◌, ◌↔◌, ℕ, suc, ◌≤◌, ◌<◌, ℤ, length, take, get_or}
 use Rattle.relief.specs.Heights.{levels}
 use Rattle.relief.specs.Peaks.{Entry, pass_cell_of, Member, Among, ListOf}
@@ -9,27 +10,25 @@ use Rattle.relief.specs.Runs.{Batch}
 use Rattle.relief.specs.Plane.{Shape, touch_of, stage_of}
 use Rattle.record.specs.declared.Peak.{Peak}
 use Rattle.record.specs.declared.Refusal.{Refusal}
-use Rattle.record.specs.declared.Handed.TheVariants.{Count, Refused}
 use Rattle.running.specs.declared.Run.{Run}
-use Rattle.run.specs.declared.Started.TheVariants as started
 use Rattle.running.specs.Running.{held_of}
 use Rattle.run.specs.Promises.{Starts, Columns, Ends}
 
 -- Refused calls of Column and End, with whatever they were lent, may stand between accepted ones.
 pub data Calls : Run → List ℤ → List (List Entry) → Type 0 where
-  begun : {run : Run} (rows T : ℕ) → Starts rows T (started.Begun run) → Calls run [] []
+  begun : {run : Run} (rows T : ℕ) → Starts rows T (Ok run) → Calls run [] []
   taken : {run run' : Run} {cells column grid grid' : List ℤ} {batches : List (List Entry)} {n : ℕ}
       {work work' : List ℕ} {table table' : List Peak}
       → Calls run cells batches → take (held_of run) grid ≡ cells
-      → (c : Columns run column grid grid' work work' table table' run' (Count n))
+      → (c : Columns run column grid grid' work work' table table' run' (Ok n))
       → Calls run' (cells ++ column) (batches ++ (c.hands.entries ∷ []))
   refused : {run run' : Run} {cells column grid grid' : List ℤ} {batches : List (List Entry)}
       {work work' : List ℕ} {table table' : List Peak} {r : Refusal}
-      → Calls run cells batches → Columns run column grid grid' work work' table table' run' (Refused r)
+      → Calls run cells batches → Columns run column grid grid' work work' table table' run' (Err r)
       → Calls run' cells batches
   unended : {run run' : Run} {cells grid : List ℤ} {batches : List (List Entry)} {work work' : List ℕ}
       {table table' : List Peak} {r : Refusal}
-      → Calls run cells batches → Ends run grid work work' table table' run' (Refused r) → Calls run' cells batches
+      → Calls run cells batches → Ends run grid work work' table table' run' (Err r) → Calls run' cells batches
 
 -- The j-th batch is what the call that took the j-th column closed. "The batches from start to end hold just the whole
 -- run's list, each peak once."

@@ -7,31 +7,23 @@ ghost use Rattle.run.specs.Promises.{Starts, Columns, Ends};
 ghost use Rattle.running.specs.Inner.{GoodColumn, GoodEnd};
 ghost use Rattle.run.specs.Inner.{ColumnsFlat, EndsFlat};
 
-use record::{Checked, Handed, Peak, Refusal};
+use record::{Peak, Refusal};
 pub use running::Run;
 
-// What Start answers: a record of zero columns, or why it is refused.
-#[derive(Clone, Copy)]
-pub enum Started {
-    Begun(Run),
-    Refused(Refusal),
-}
-
-// The run record after a call, and the answer.
-#[derive(Clone, Copy)]
+// The run record after a call, and the answer: how many peaks are handed out, or why it is refused.
+#[derive(Clone, Copy, PartialEq, Eq)]
 pub struct Step {
     pub run: Run,
-    pub handed: Handed,
+    pub handed: Result<u32, Refusal>,
 }
 
 // Starts a run of zero columns.
-pub fn start(rows: u32, threshold: u32) -> Started
+#[tactic(auto, unfolding(record::specs::Refusals::first_of))]
+pub fn start(rows: u32, threshold: u32) -> Result<Run, Refusal>
     ensures { Starts rows threshold result }
 {
-    if record::bad_rows(rows) {
-        return Started::Refused(Refusal::Rows);
-    }
-    Started::Begun(Run::growing(rows, 0, threshold))
+    record::refuse_if(record::bad_rows(rows), Refusal::Rows)?;
+    Ok(Run::growing(rows, 0, threshold))
 }
 
 // Copies a column behind the taken cells.
@@ -40,11 +32,7 @@ fn copy(grid: &mut [i32], at: usize, column: &[i32])
     ensures { grid.new
         ≡ paste grid.old at column.now (length column.now) }
 {
-    let mut i = 0;
-    while i < column.len() {
-        grid[at + i] = column[i];
-        i += 1;
-    }
+    grid[at..at + column.len()].copy_from_slice(column);
 }
 
 // Column once the tests before the work have passed.
@@ -57,12 +45,12 @@ fn column_good(run: Run, column: &[i32], grid: &mut [i32], work: &mut [u8], room
     let held = running::held_cells(run);
     let n = held + rows;
     copy(grid, held, column);
-    heights::load(work, grid, n);
+    heights::load(work, &*grid, n);
     let count = survey::closing(work, n, held, rows, run.threshold);
     let handed = table::room_answer(count, room);
     Step {
         run: running::after_column(run, handed),
-        handed: handed,
+        handed,
     }
 }
 
@@ -78,37 +66,37 @@ fn end_good(run: Run, grid: &[i32], work: &mut [u8], room: usize) -> Step
     let handed = table::room_answer(count, room);
     Step {
         run: running::after_end(run, handed),
-        handed: handed,
+        handed,
     }
 }
 
 // Column without the table, of which only the room counts: the records are left in the work area.
+// A refusal hands the run back as it came, so no `?` stands here.
 pub fn column_flat(run: Run, column: &[i32], grid: &mut [i32], work: &mut [u8], room: usize) -> Step
     ensures { ColumnsFlat run column.now grid.old grid.new
         work.old room work.new result.run result.handed }
 {
-    let checked = running::check_column(run, column.len(), grid.len(), work.len());
-    match checked {
-        Checked::Bad(refusal) => Step {
-            run: run,
-            handed: Handed::Refused(refusal),
+    match running::check_column(run, column.len(), grid.len(), work.len()) {
+        Err(refusal) => Step {
+            run,
+            handed: Err(refusal),
         },
-        Checked::Good => column_good(run, column, grid, work, room),
+        Ok(()) => column_good(run, column, grid, work, room),
     }
 }
 
 // End without the table, of which only the room counts: the records are left in the work area.
+// A refusal hands the run back as it came, so no `?` stands here.
 pub fn end_flat(run: Run, grid: &[i32], work: &mut [u8], room: usize) -> Step
     ensures { EndsFlat run grid.now work.old room work.new
         result.run result.handed }
 {
-    let checked = running::check_end(run, grid.len(), work.len());
-    match checked {
-        Checked::Bad(refusal) => Step {
-            run: run,
-            handed: Handed::Refused(refusal),
+    match running::check_end(run, grid.len(), work.len()) {
+        Err(refusal) => Step {
+            run,
+            handed: Err(refusal),
         },
-        Checked::Good => end_good(run, grid, work, room),
+        Ok(()) => end_good(run, grid, work, room),
     }
 }
 
@@ -123,27 +111,32 @@ pub fn column(
     ensures { Columns run column.now grid.old grid.new
         work.old work.new table.old table.new result.run result.handed }
 {
-    let room = table.len();
-    let step = column_flat(run, column, grid, work, room);
-    let after = step.run;
-    let handed = step.handed;
-    let cells = table::cells_of(handed, running::held_cells(after));
-    let count = table::count_of(handed);
-    table::fill(table, work, cells, count);
+    let step = column_flat(run, column, grid, work, table.len());
+    if let Ok(count) = step.handed {
+        table::fill(
+            table,
+            work,
+            running::held_cells(step.run),
+            words::index(count),
+        );
+    }
     step
 }
 
 // Ends a run.
+// `column` fills its table alike: a function for the two would take all that both clauses speak of, for five lines.
 pub fn end(run: Run, grid: &[i32], work: &mut [u8], table: &mut [Peak]) -> Step
     ensures { Ends run grid.now work.old work.new table.old
         table.new result.run result.handed }
 {
-    let room = table.len();
-    let step = end_flat(run, grid, work, room);
-    let after = step.run;
-    let handed = step.handed;
-    let cells = table::cells_of(handed, running::held_cells(after));
-    let count = table::count_of(handed);
-    table::fill(table, work, cells, count);
+    let step = end_flat(run, grid, work, table.len());
+    if let Ok(count) = step.handed {
+        table::fill(
+            table,
+            work,
+            running::held_cells(step.run),
+            words::index(count),
+        );
+    }
     step
 }

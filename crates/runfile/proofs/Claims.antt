@@ -3,6 +3,8 @@
 -- reader refuses it. A file that is read is the file of what it holds (`read-file`), and no test of the writer refuses
 -- that.
 -- Assumes nothing.
+use Rattle.record.specs.declared.Refusal.{Refusal}
+use Rattle.std.specs.Prelude.{Result, Ok}
 use mathlib.Core.List.{List, [], ◌∷◌, ◌++◌, map}
 use mathlib.Core.Path.{◌≡◌, sym, ap, ◌∙◌}
 use Prim.Native.Nat.{ℕ, ◌+◌, ◌*◌, ◌/◌, ◌%◌, ◌≤◌, ◌<◌}
@@ -18,18 +20,15 @@ use Rattle.record.specs.Records.{record_of}
 use Rattle.record.specs.Refusals.{granted, told_by}
 use Rattle.record.proofs.Tests.{told-by}
 use Rattle.sound.proofs.Claims.{claims as sound-claims}
-use Rattle.layout.specs.declared.Written.{Written}
-use Rattle.layout.specs.declared.Written.TheVariants.{Bytes}
-use Rattle.layout.specs.declared.ReadBack.{ReadBack}
-use Rattle.layout.specs.declared.ReadBack.TheVariants.{Run}
 use Rattle.layout.specs.Layout.{total_of, file_of, rows_in, columns_in, peaks_in, cells_in, heights_in, records_from}
 use Rattle.sound.specs.Sound.{FirstUnsound, GridOf, SoundRow}
-use Rattle.layout.specs.Promises.{write_tests, room_after, lent_after}
+use Rattle.layout.specs.declared.ReadBack.{ReadBack}
+use Rattle.layout.specs.Promises.{run_of, write_tests, room_after, lent_after}
 use Rattle.layout.proofs.Files.{file-length, file-rows, file-columns, file-peaks, file-offset, file-offset-2}
 use Rattle.layout.proofs.Files.{file-total, back-cells, back-heights, back-records}
 use Rattle.layout.proofs.Rows.{heights-length, peaks-length}
-use Rattle.reader.specs.Inner.{cells_to_take, records_to_take}
-use Rattle.reader.proofs.ReadAnswer.{Readable, readable-good, read-readable, read_same, read-differ, answers-unique}
+use Rattle.reader.proofs.ReadAnswer.{Readable, readable-good, read-readable, read-rows, read-cells, read-peaks}
+use Rattle.reader.proofs.ReadAnswer.{read-differ, answers-unique}
 use Rattle.reader.proofs.ReadFile.{read-file}
 use Rattle.sound.proofs.Scans.{first-unique, first-all, first-few}
 use Rattle.writer.proofs.WriteAnswer.{Gridded, written-bytes, written-differ}
@@ -47,8 +46,10 @@ write-unique rows hs ps s r r' a a' w w' =
     (w.answered
     ∙ ap (λ (u : ℕ). told_by (write_tests rows (length hs) (length ps) u (length s)) (granted (total ∷ [])))
     (first-unique w.first w'.first)
-    ∙ sym w'.answered) in
-    (same, w.room ∙ ap (λ (b : Written). room_after b (file_of rows hs ps ++ drop total s) s) same ∙ sym w'.room)
+    ∙ sym w'.answered) in (
+      same,
+      w.room ∙ ap (λ (b : Result ℕ Refusal). room_after b (file_of rows hs ps ++ drop total s) s) same ∙ sym w'.room,
+    )
 
 read-unique : ReadUnique
 read-unique f hs h h' ps t t' a a' r r' =
@@ -57,15 +58,15 @@ read-unique f hs h h' ps t t' a a' r r' =
     let table = records_from f (cells_in f) (peaks_in f) ++ drop (peaks_in f) ps in (
       same,
       (
-        r.heights ∙ ap (λ (b : ReadBack). lent_after b heights hs) same ∙ sym r'.heights,
-        r.table ∙ ap (λ (b : ReadBack). lent_after b table ps) same ∙ sym r'.table,
+        r.heights ∙ ap (λ (b : Result ReadBack Refusal). lent_after b heights hs) same ∙ sym r'.heights,
+        r.table ∙ ap (λ (b : Result ReadBack Refusal). lent_after b table ps) same ∙ sym r'.table,
       ),
     )
 
 -- ---- written and read back
 
 module _ {rows : ℕ} {hs s s' : List ℤ} (ps t t' : List Peak) (grid : GridOf rows hs) (all : SoundRow hs ps)
-    (a : ReadBack) (room : length hs ≤ length s) (table : length ps ≤ length t) where
+    (a : Result ReadBack Refusal) (room : length hs ≤ length s) (table : length ps ≤ length t) where
   file-read : Reads (file_of rows hs ps) s s' t t' a → SameRun rows hs s s' ps t t' a
   file-read r =
       let f = file_of rows hs ps in
@@ -96,8 +97,8 @@ module _ {rows : ℕ} {hs s s' : List ℤ} (ps t t' : List Peak) (grid : GridOf 
         room = omega arith;
         table-room = omega arith;
       } in
-      let answer : a ≡ Run rows (length hs / rows) (length ps) =
-      read-differ a (Run (rows_in f) (columns_in f) (peaks_in f))
+      let answer : a ≡ run_of rows (length hs / rows) (length ps) =
+      read-differ a (run_of (rows_in f) (columns_in f) (peaks_in f))
       (r.answer.answered ∙ told-by _ (readable-good f (length s) (length t) r.answer.unsound can))
       ∙ rw (rows_are, file-columns rows hs ps, peaks) in
       record {
@@ -118,8 +119,8 @@ reads-back-writes : ReadsBackWrites
 reads-back-writes rows hs s s' ps t t' room room' w a grid all long room-s room-t writes reads =
     let u = writes.unsound in
     let last = first-all writes.first all in
-    let bytes : w ≡ Bytes (total_of (length hs) (length ps)) =
-    written-differ w (Bytes (total_of (length hs) (length ps)))
+    let bytes : w ≡ Ok (total_of (length hs) (length ps)) =
+    written-differ w (Ok (total_of (length hs) (length ps)))
     (writes.answered
     ∙ sym (written-bytes rows (length hs) (length ps) u (length room) (gridded grid) (omega arith) long)) in
     let file : take (total_of (length hs) (length ps)) room' ≡ file_of rows hs ps =
@@ -139,9 +140,9 @@ lists-read-back rows hs s s' T l t t' room room' w a grid listed =
 module _ {f : List ℕ} {heights table u : ℕ} (bytes : (k : ℕ) → get_or f k 0 < 256) (can : Readable f heights table u)
     (first : FirstUnsound (heights_in f (cells_in f)) (records_from f (cells_in f) (peaks_in f)) u) where
   file-written :
-      (room room' : List ℕ) (w : Written) → length f ≤ length room →
+      (room room' : List ℕ) (w : Result ℕ Refusal) → length f ≤ length room →
       Writes (rows_in f) (heights_in f (cells_in f)) (records_from f (cells_in f) (peaks_in f)) room room' w →
-      (w ≡ Bytes (length f)) × (room' ≡ f ++ drop (length f) room)
+      (w ≡ Ok (length f)) × (room' ≡ f ++ drop (length f) room)
   file-written room room' w long writes =
       let hs = heights_in f (cells_in f) in
       let ps = records_from f (cells_in f) (peaks_in f) in
@@ -151,25 +152,24 @@ module _ {f : List ℕ} {heights table u : ℕ} (bytes : (k : ℕ) → get_or f 
       let total : total_of (length hs) (length ps) ≡ length f =
       omega (arith, can.whole.total, can.whole.counted.total) in
       let whole = ap (λ (n : ℕ). n % rows_in f) cells ∙ mul-mod_right (rows_in f) (columns_in f) in
-      let answer : w ≡ Bytes (length f) =
-      written-differ w (Bytes (total_of (length hs) (length ps)))
+      let answer : w ≡ Ok (length f) =
+      written-differ w (Ok (total_of (length hs) (length ps)))
       (writes.answered
       ∙ sym (written-bytes (rows_in f) (length hs) (length ps) writes.unsound (length room)
       (record { some = can.whole.some; few = can.whole.few; whole = whole; fit = omega (arith, can.whole.fit) })
       (omega (arith, can.sound)) (omega arith)))
-      ∙ ap Bytes total in
+      ∙ ap Ok total in
       (answer, writes.room ∙ rw (answer, read-file f bytes can, total))
 
 writes-back-reads : WritesBackReads
 writes-back-reads f s s' t t' rows columns peaks room room' w bytes long reads writes =
     let j = reads.answer in
     let can = read-readable f (length s) (length t) j.unsound j.answered in
-    let same = read_same f (length s) (length t) j.unsound j.answered in
     let hs = heights_in f (cells_in f) in
     let ps = records_from f (cells_in f) (peaks_in f) in
-    let cells : rows * columns ≡ cells_in f = ap cells_to_take same in
-    let count : peaks ≡ peaks_in f = ap records_to_take same in
-    let rows_are : rows ≡ rows_in f = cc in
+    let cells : rows * columns ≡ cells_in f = read-cells f (length s) (length t) j.unsound j.answered in
+    let count : peaks ≡ peaks_in f = read-peaks f (length s) (length t) j.unsound j.answered in
+    let rows_are : rows ≡ rows_in f = read-rows f (length s) (length t) j.unsound j.answered in
     let heights : take (rows * columns) s' ≡ hs =
     ap (take (rows * columns)) reads.heights
     ∙ take_at hs (drop (cells_in f) s) (rows * columns) (heights-length f 6 (cells_in f) ∙ sym cells) in

@@ -5,10 +5,9 @@
 --     run_tests, column_tests, end_tests   the tests before the work, in the paper's order
 --     column_run, end_run              the run record after a call
 -- Assumes nothing.
+use Rattle.std.specs.Prelude.{Result, Ok, Err}
 use Rattle.std.specs.Prelude.{Bool, true, false, not, ◌||◌, List, [], ◌∷◌, ◌++◌, ℕ, ◌+◌, ◌*◌, eqb, ltb}
 use Rattle.relief.specs.Plane.{Shape, plane_of}
-use Rattle.record.specs.declared.Handed.{Handed}
-use Rattle.record.specs.declared.Handed.TheVariants.{Count, Refused}
 use Rattle.record.specs.declared.Refusal.{Refusal}
 use Rattle.record.specs.declared.Refusal.TheVariants.{Rows, Cells, Work, Ended, ColumnLength, GridFull, TakenCells}
 use Rattle.record.specs.Refusals.{bad_rows}
@@ -51,7 +50,7 @@ abbrev pub bad_record : Run → ℕ → Bool
 bad_record run grid = ltb grid (held_of run) || ltb 1048576 (held_of run)
 
 -- What every call with a run record tests first: 1, 9. `grid` is a length, as all that is lent is below.
-unfoldable pub run_tests : Run → ℕ → List (Bool × Refusal)
+abbrev pub run_tests : Run → ℕ → List (Bool × Refusal)
 run_tests run grid = (bad_rows run.rows, Rows) ∷ (bad_record run grid, TakenCells) ∷ []
 
 -- "Column: 1, 9, 6, 7, 3, 8, 4, 5." 5 is the last test of every call that hands out records (`handed_by`).
@@ -77,10 +76,10 @@ end_tests run grid work = run_tests run grid ++ ((run.ended, Ended) ∷ (ltb wor
 -- ---- after a call
 
 -- "A refusal returns the run record as it came".
-abbrev pub column_run : Handed → Run → Run
-column_run (Count n) run = with_column run
-column_run (Refused r) run = run
+abbrev pub column_run : Result ℕ Refusal → Run → Run
+column_run (Ok n) run = with_column run
+column_run (Err r) run = run
 
-abbrev pub end_run : Handed → Run → Run
-end_run (Count n) run = with_end run
-end_run (Refused r) run = run
+abbrev pub end_run : Result ℕ Refusal → Run → Run
+end_run (Ok n) run = with_end run
+end_run (Err r) run = run

@@ -9,7 +9,7 @@ pub use records::{after_column, after_end, held_cells};
 pub use tests::{check_column, check_end, check_run};
 
 // A run record: rows, columns taken, threshold and whether the run has ended.
-#[derive(Clone, Copy)]
+#[derive(Clone, Copy, PartialEq, Eq)]
 pub struct Run {
     pub rows: u32,
     pub columns: u32,

@@ -1,9 +1,9 @@
 // The run record: what is read from it, and what becomes of it. No other file makes one.
 ghost use Rattle.std.specs.Prelude.{◌≡◌, ◌+◌, ◌<◌};
-ghost use Rattle.running.specs.Running.{held_of, growing_run, with_column, with_end, column_run, end_run};
+ghost use Rattle.running.specs.Running.{held_of, growing_run, column_run, end_run};
 
 use crate::Run;
-use record::Handed;
+use record::Refusal;
 
 impl Run {
     // The record of a run that has taken so many columns and has not ended.
@@ -11,9 +11,9 @@ impl Run {
         ensures { result ≡ growing_run rows columns threshold }
     {
         Run {
-            rows: rows,
-            columns: columns,
-            threshold: threshold,
+            rows,
+            columns,
+            threshold,
             ended: false,
         }
     }
@@ -26,42 +26,26 @@ pub fn held_cells(run: Run) -> usize
     words::times(run.columns, run.rows)
 }
 
-// The record with one column more.
-fn with_column(run: Run) -> Run
-    requires { run.columns + 1 < 4294967296 }
-    ensures { result ≡ with_column run }
-{
-    let mut next = run;
-    next.columns = run.columns + 1;
-    next
-}
-
-// The record of a run that has ended.
-fn with_end(run: Run) -> Run
-    ensures { result ≡ with_end run }
-{
-    let mut next = run;
-    next.ended = true;
-    next
-}
-
-// The record after Column's answer.
-pub fn after_column(run: Run, handed: Handed) -> Run
+// The record after Column's answer: with one column more, unless it is refused.
+pub fn after_column(run: Run, handed: Result<u32, Refusal>) -> Run
     requires { run.columns + 1 < 4294967296 }
     ensures { result ≡ column_run handed run }
 {
     match handed {
-        Handed::Count(_) => with_column(run),
-        Handed::Refused(_) => run,
+        Ok(_) => Run {
+            columns: run.columns + 1,
+            ..run
+        },
+        Err(_) => run,
     }
 }
 
-// The record after End's answer.
-pub fn after_end(run: Run, handed: Handed) -> Run
+// The record after End's answer: that of a run that has ended, unless it is refused.
+pub fn after_end(run: Run, handed: Result<u32, Refusal>) -> Run
     ensures { result ≡ end_run handed run }
 {
     match handed {
-        Handed::Count(_) => with_end(run),
-        Handed::Refused(_) => run,
+        Ok(_) => Run { ended: true, ..run },
+        Err(_) => run,
     }
 }

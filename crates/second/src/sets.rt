@@ -1,13 +1,10 @@
-// Sets of cells: bit i of the number says whether cell i is in the set.
-use crate::MAX;
+// Sets of cells: bit i of the number says whether cell i is in the set. The bare number, since `&`, `|` and `!` are
+// what is done with sets.
+use crate::{Few, MAX};
 
 // Whether the cell is in the set.
 pub fn has(set: u64, cell: usize) -> bool {
-    if cell < MAX {
-        (set >> cell) & 1 == 1
-    } else {
-        false
-    }
+    cell < MAX && (set >> cell) & 1 == 1
 }
 
 // The set of that one cell.
@@ -24,7 +21,25 @@ pub fn earlier(end: usize) -> u64 {
     }
 }
 
-// The earliest cell of the set, and `MAX` where the set is empty.
-pub fn earliest(set: u64) -> u32 {
-    u64::trailing_zeros(set)
+// The earliest cell of the set.
+pub fn earliest(set: u64) -> Option<usize> {
+    (0..MAX).find(|cell| has(set, *cell))
+}
+
+// The set of those cells with a smaller number than `end` that are as asked.
+pub fn such<F: Fn(usize) -> bool>(end: usize, asked: F) -> u64
+    requires { F.IsAlwaysCallable asked }
+{
+    (0..end)
+        .filter(|cell| asked(*cell))
+        .fold(0, |set, cell| set | only(cell))
+}
+
+// The cells of the set in reading order.
+pub fn in_order(set: u64) -> Few<usize, MAX> {
+    let mut cells = Few::new();
+    for cell in (0..MAX).filter(|cell| has(set, *cell)) {
+        cells.push(cell);
+    }
+    cells
 }

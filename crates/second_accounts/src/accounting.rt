@@ -1,62 +1,89 @@
 // The account of a peak's key height, and the judge of any account: request (iii) of document 02.
-use crate::rows::Row;
-use crate::{rows, ways};
-use second::touch::Near;
-use second::{BLANK, ground, peaks};
+ghost use Rattle.std.specs.Prelude.{◌≡◌};
 
-// What an account says: the key height, or the mark of a missing one, the path and the island.
+use crate::ways;
+use second::{Few, Grid, MAX, sets};
+
+// A row of cells, in which an account has its path and its island. No account that this lister gives has more of them
+// than there is room for.
+pub type Row = Few<u32, MAX>;
+
+// What an account says: the key height, where there is one, the path and the island.
 #[derive(Clone, Copy)]
-pub struct Account {
-    pub key: i32,
+pub struct Account<'a> {
+    pub key: Option<i32>,
+    pub path: &'a [u32],
+    pub island: &'a [u32],
+}
+
+// An account that this lister gives, with its rows.
+#[derive(Drop)]
+pub struct Given {
+    pub key: Option<i32>,
     pub path: Row,
     pub island: Row,
 }
 
-// "the tool gives an account: the key height, a path from the peak's cell to outranking ground that stays at or above
-// it, and the island in reading order".
-pub fn account_of(near: &Near, heights: &[i32], summits: u64, peak: usize) -> Account {
-    let key = peaks::key_height(near, heights, summits, peak);
-    Account {
-        key: key,
-        path: path_of(near, heights, summits, peak, key),
-        island: rows::in_order(peaks::island(near, heights, peak, key)),
+impl Given {
+    // "the tool gives an account: the key height, a path from the peak's cell to outranking ground that stays at or
+    // above it, and the island in reading order".
+    pub(crate) fn of(grid: &Grid, peak: usize) -> Given {
+        let key = grid.key_height(peak);
+        Given {
+            key,
+            path: path_of(grid, peak, key).unwrap_or(Row::new()),
+            island: in_order(grid.island(peak, key)),
+        }
+    }
+
+    // What it says.
+    pub fn account(&self) -> Account<'_>
+        ensures key { result.key ≡ self.now.key }
+        ensures path { result.path.now ≡ self.now.path }
+        ensures island { result.island.now ≡ self.now.island }
+    {
+        Account {
+            key: self.key,
+            path: self.path.as_slice(),
+            island: self.island.as_slice(),
+        }
     }
 }
 
-// The path leads to the peak's parent. "Without one the path is empty."
-fn path_of(near: &Near, heights: &[i32], summits: u64, peak: usize, key: i32) -> Row {
-    if key == BLANK {
-        return rows::empty();
-    }
-    let region = peaks::region(near, heights, peak, key);
-    let parent = peaks::top(heights, summits & region);
-    ways::first_way(near, region, peak, parent)
+// The path leads to the peak's parent; none without a key height.
+fn path_of(grid: &Grid, peak: usize, key: Option<i32>) -> Option<Row> {
+    let region = grid.region(peak, key?);
+    let parent = grid.top(grid.peaks & region)?;
+    Some(ways::first_way(grid, region, peak, parent))
 }
 
-// "A small check accepts any such account from any source, and no other": "nothing on it outranks", "it" being the
-// island.
-pub fn is_account(
-    near: &Near,
-    heights: &[i32],
-    summits: u64,
-    peak: usize,
-    account: Account,
-) -> bool {
-    let key = account.key;
-    let path = account.path;
-    let island = account.island;
-    let goal = peaks::outranking(near, heights, summits, peak);
-    let own = peaks::island(near, heights, peak, key);
-    leads_out(near, heights, peak, key, goal, path)
-        && rows::is_in_order(island, own)
-        && own & goal == 0
+// The cells of a set "in reading order".
+// By itself: an account's cells are numbers of 32 bits, and those of `sets::in_order` indices.
+fn in_order(set: u64) -> Row {
+    let mut row = Row::new();
+    for cell in (0..MAX as u32).filter(|cell| sets::has(set, *cell as usize)) {
+        row.push(cell);
+    }
+    row
 }
 
-// Whether the path is "from the peak's cell to outranking ground" and "stays at or above" the key height; "Without one
-// the path is empty."
-fn leads_out(near: &Near, heights: &[i32], peak: usize, key: i32, goal: u64, path: Row) -> bool {
-    if key == BLANK {
-        return path.count == 0;
+impl Account<'_> {
+    // "A small check accepts any such account from any source, and no other": "nothing on it outranks", "it" being the
+    // island.
+    pub(crate) fn is_of(self, grid: &Grid, peak: usize) -> bool {
+        let goal = grid.outranking(peak);
+        let own = grid.island(peak, self.key);
+        self.leads_out(grid, peak, goal)
+            && self.island == in_order(own).as_slice()
+            && own & goal == 0
     }
-    ways::is_way(near, ground::at_or_above(heights, key), peak, goal, path)
+
+    // Whether the path is "from the peak's cell to outranking ground" and "stays at or above" the key height; "Without
+    // one the path is empty."
+    fn leads_out(self, grid: &Grid, peak: usize, goal: u64) -> bool {
+        match self.key {
+            Some(key) => ways::is_way(grid, grid.at_or_above(key), peak, goal, self.path),
+            None => self.path.is_empty(),
+        }
+    }
 }

@@ -2,29 +2,27 @@
 --     dec_sound                 whether a record is sound can be decided
 --     SoundBefore hs ps i least       the records before the i-th are sound, and least is the least cell left to it
 --     scan-start, scan_step    how a scan goes on
+--     scan-next                the same of a record and a number that are equal to those
 --     scan-stop, scan-done     how it ends: at an unsound record, or behind the last
 --     first-total              there is a first unsound record, or all are sound
 --     first-unique             its index is one number
 --     first-few                it is no more than the number of cells
 --     first-all                where all records are sound, it is their number
---     Scanned hs ps i state    a scan as one number; scanned-start, scanned-step, scanned-done
 -- A scan goes through the records. Cells of sound records rise, so the i-th is at least i. Assumes nothing.
 use mathlib.Core.List.{List}
 use mathlib.Core.Logic.{◌⊎◌, inl, inr}
 use mathlib.Core.Bool.{Bool, true, false}
-use mathlib.Core.Path.{◌≡◌, refl, ◌∙◌}
-use Prim.Native.Nat.{ℕ, zero, suc, ◌+◌, ◌-◌, ◌≤◌, ◌<◌}
+use mathlib.Core.Path.{◌≡◌, refl, ap}
+use Prim.Native.Nat.{ℕ, zero, suc, ◌+◌, ◌≤◌, ◌<◌}
 use native.Mathlib.Decide.{dec_lt, dec_le, ℕ_discrete}
 use native.Mathlib.Numerals.{add-one}
 use native.Mathlib.Omega.{arith}
-use borrow.Author.Tests.{lt-ltb, le-ltb}
 use lib.IntN.{ℤ, negsuc, ℤ_discrete}
 use lib.ListN.{length, get_or}
 use lib.Signed.{◌<ℤ◌, lt_z}
 use Rattle.relief.specs.Heights.{BLANK}
 use Rattle.record.specs.declared.Peak.{Peak}
 use Rattle.sound.specs.Sound.{Keyless, Keyed, Sound, ith_of, least_at, FirstUnsound}
-use Rattle.sound.specs.Inner.{STOPPED, Scans, scanned_of}
 
 -- ---- decided
 
@@ -120,6 +118,14 @@ module _ {hs : List ℤ} {ps : List Peak} {i least : ℕ} (scan : SoundBefore hs
     ];
   }
 
+  pub scan-next :
+      i < length ps → {p : Peak} → p ≡ ith_of ps i → Sound hs least p → {next : ℕ} → next ≡ p.cell + 1 →
+      SoundBefore hs ps (i + 1) next
+  scan-next l {p} e s {next} d =
+      let on = scan_step l (rw e at s) in
+      let behind : suc (ith_of ps i).cell ≡ next = omega (arith, d, ap (λ (q : Peak). q.cell) e) in
+      rw (add-one i) (rw behind at on)
+
   pub scan-stop : (Sound hs least (ith_of ps i) → ⊥) → FirstUnsound hs ps i
   scan-stop n = record {
     within = scan.within;
@@ -190,36 +196,3 @@ first-all {ps} {i} first all = elim (dec_lt i (length ps)) [
   | yes l ↦ absurd (first.here l (all i l))
   | no n ↦ let h = first.within in omega arith
 ]
-
--- ---- a scan as one number
-
--- Before the i-th record, the scan goes on, or has stopped at the first unsound one.
-abbrev pub Scanned : List ℤ → List Peak → ℕ → ℕ → Type 0
-Scanned hs ps i state =
-    ((state < STOPPED) × SoundBefore hs ps i state) ⊎ ((k : ℕ) × ((state ≡ STOPPED + k) × FirstUnsound hs ps k))
-
-pub scanned-start : (hs : List ℤ) (ps : List Peak) → Scanned hs ps 0 0
-scanned-start hs ps = inl (omega arith, scan-start hs ps)
-
-pub scanned-step :
-    {hs : List ℤ} {ps : List Peak} {i state next : ℕ} → Scanned hs ps i state → i < length ps →
-    Scans hs state i (ith_of ps i) next → Scanned hs ps (i + 1) next
-scanned-step {hs} {ps} {i} {state} {next} (inl s) l t = elim (dec_sound hs state (ith_of ps i)) [
-  | yes sound ↦
-      let n = t.sound s.0 sound in
-      let e : suc (ith_of ps i).cell ≡ next = omega (arith, n.0) in
-      let on = scan_step s.1 l sound in
-      inl (n.1, rw (add-one i) (rw e at on))
-  | no unsound ↦ inr (i, (t.unsound s.0 unsound, scan-stop s.1 unsound))
-]
-scanned-step (inr s) l t = inr (s.0, (t.stopped (omega (arith, s.1.0)) ∙ s.1.0, s.1.1))
-
-pub scanned-done :
-    {hs : List ℤ} {ps : List Peak} {i state : ℕ} → Scanned hs ps i state → i ≡ length ps →
-    FirstUnsound hs ps (scanned_of state (length ps))
-scanned-done {hs} {ps} {i} {state} (inl s) e =
-    rw (lt-ltb state STOPPED s.0, ← e) (scan-done s.1 (omega arith))
-scanned-done {hs} {ps} {i} {state} (inr s) e =
-    let k = s.0 in
-    let back : state - STOPPED ≡ k = omega (arith, s.1.0) in
-    rw (le-ltb state STOPPED (omega (arith, s.1.0)), back) s.1.1

@@ -3,14 +3,14 @@
 --                                              which p's pass cell holds there
 --     DecidesSound cells least p here there r  r tells whether p is sound in a grid of so many cells, in which p's cell
 --                                              and pass cell hold here and there
---     STOPPED, Scans heights state i p r       a scan as one number, and r as its state after the i-th record
---     scanned_of state n                       what a scan of n records has found
+--     FoundUnsound heights records r           r is the index of the first unsound record, none if all are sound
+--     index_of r n                             that index as a number, n if there is none
 -- Assumes nothing.
-use Rattle.std.specs.Prelude.{Bool, cond, List, ◌⊎◌, ◌≡◌, ℕ, ◌+◌, ◌-◌, ◌≤◌, ◌<◌, ltb, ℤ, length, get_or}
+use Rattle.std.specs.Prelude.{Bool, List, ◌⊎◌, ◌≡◌, ℕ, ◌<◌, ℤ, length, get_or, Option, Some, None}
 use Rattle.relief.specs.Heights.{BLANK}
 use Rattle.relief.specs.Inner.{Decides}
 use Rattle.record.specs.declared.Peak.{Peak}
-use Rattle.sound.specs.Sound.{Keyless, Keyed, Sound}
+use Rattle.sound.specs.Sound.{Keyless, Keyed, Sound, FirstUnsound}
 
 abbrev pub DecidesKeys : ℕ → Peak → ℤ → Bool → Type 0
 DecidesKeys cells p there r =
@@ -22,15 +22,12 @@ DecidesSound cells least p here there r =
     (heights : List ℤ) → length heights ≡ cells → get_or heights p.cell BLANK ≡ here →
     get_or heights p.pass BLANK ≡ there → Decides (Sound heights least p) r
 
--- A scan that has stopped is this number and the index of the first unsound record; one that goes on is the least cell
--- left to the next record.
-abbrev pub STOPPED : ℕ
-STOPPED = 8589934592
+-- The index of the first unsound record of a row where one is, none where all are sound.
+abbrev pub FoundUnsound : List ℤ → List Peak → Option ℕ → Type 0
+FoundUnsound heights records None = FirstUnsound heights records (length records)
+FoundUnsound heights records (Some i) = (i < length records) × FirstUnsound heights records i
 
-pub record Scans (heights : List ℤ) (state i : ℕ) (p : Peak) (r : ℕ) : Type 0 where
-  pub stopped : STOPPED ≤ state → r ≡ state
-  pub sound : state < STOPPED → Sound heights state p → (r ≡ p.cell + 1) × (r < STOPPED)
-  pub unsound : state < STOPPED → (Sound heights state p → ⊥) → r ≡ STOPPED + i
-
-abbrev pub scanned_of : ℕ → ℕ → ℕ
-scanned_of state n = cond (ltb state STOPPED) n (state - STOPPED)
+-- That index, the number of records where there is none.
+abbrev pub index_of : Option ℕ → ℕ → ℕ
+index_of None n = n
+index_of (Some i) n = i

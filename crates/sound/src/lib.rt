@@ -1,13 +1,14 @@
-// Which records are sound in a grid: the test of one record, and a scan of a row of them.
+// Which records are sound in a grid: the test of one record, and the search for the first that is not.
 #![tactic(auto)]
 
-ghost use Rattle.std.specs.Prelude.{◌≡◌, ◌+◌, ◌<◌, ◌≤◌, get_or};
-ghost use Rattle.relief.specs.Heights.{BLANK};
+ghost use Rattle.std.specs.Prelude.{◌≡◌, ◌+◌, ◌≤◌};
 ghost use Rattle.relief.specs.Inner.{Decides};
 ghost use Rattle.sound.specs.Sound.{Sound};
-ghost use Rattle.sound.specs.Inner.{DecidesKeys, DecidesSound, Scans, scanned_of};
+ghost use Rattle.sound.specs.Inner.{DecidesKeys, DecidesSound, FoundUnsound};
 
+use heights::Heights;
 use record::{Cell, Peak};
+use table::Records;
 
 // ---- one record
 
@@ -22,92 +23,54 @@ fn has_fit_keys(cells: usize, p: Peak, there: i32) -> bool
     if !p.has_key() {
         return missing;
     }
-    if missing {
-        return false;
-    }
-    if level <= key {
-        return false;
-    }
-    if cells <= words::index(p.pass) {
+    if missing || level <= key || cells <= words::index(p.pass) {
         return false;
     }
     record::level(there) == key
 }
 
 // Whether the record is sound in a grid of so many cells, in which its cell holds `here` and its pass cell `there`.
-pub fn is_sound(cells: usize, least: usize, p: Peak, here: i32, there: i32) -> bool
+fn is_sound(cells: usize, least: usize, p: Peak, here: i32, there: i32) -> bool
     ensures { DecidesSound cells least p here there result }
 {
     let cell = words::index(p.cell);
-    if cells <= cell {
-        return false;
-    }
-    if cell < least {
-        return false;
-    }
     let level = record::level(p.height);
     let held = Cell { height: here };
-    if held.is_blank() {
-        return false;
-    }
-    if record::level(here) != level {
+    if cells <= cell || cell < least || held.is_blank() || record::level(here) != level {
         return false;
     }
     has_fit_keys(cells, p, there)
 }
 
+// Whether the record is sound in that grid, if the record before it leaves it the cells from `least` on.
+fn is_sound_in<H: Heights>(heights: H, least: usize, p: Peak) -> bool
+    ensures { Decides (Sound (H.heights heights) least p) result }
+{
+    let here = heights::height_at(heights, words::index(p.cell));
+    let there = heights::height_at(heights, words::index(p.pass));
+    is_sound(heights.count(), least, p, here, there)
+}
+
 // The cell behind that of the record: the least that is left to the next record.
-pub fn next_cell(p: Peak) -> usize
+fn next_cell(p: Peak) -> usize
     ensures { (result ≡ p.cell + 1) × (result ≤ 4294967296) }
 {
     words::index(p.cell) + 1
 }
 
-// ---- a row of records in a lent grid
+// ---- a row of records
 
-// What a cell holds, the blank mark where there is no such cell.
-fn height_at(heights: &[i32], cell: usize) -> i32
-    ensures { result ≡ get_or heights.now cell BLANK }
+// The index of the first unsound record, none if all are sound.
+pub fn first_unsound<H: Heights, R: Records>(heights: H, records: R) -> Option<usize>
+    ensures { FoundUnsound (H.heights heights) (R.records records) result }
 {
-    if cell < heights.len() {
-        return heights[cell];
+    let mut least = 0;
+    for i in 0..records.count() {
+        let p = records.record(i);
+        if !is_sound_in(heights, least, p) {
+            return Some(i);
+        }
+        least = next_cell(p);
     }
-    Cell::BLANK
-}
-
-// Whether the record is sound in that grid.
-fn is_sound_at(heights: &[i32], least: usize, p: Peak) -> bool
-    ensures { Decides (Sound heights.now least p) result }
-{
-    let here = height_at(heights, words::index(p.cell));
-    let there = height_at(heights, words::index(p.pass));
-    is_sound(heights.len(), least, p, here, there)
-}
-
-// A scan that has found an unsound record: this and the index. A scan that goes on is the least cell that is left to
-// the next record, which is no more than 2^32. So its state is one number.
-const STOPPED: usize = 8589934592;
-
-// A turn of a scan, at the i-th record.
-pub fn scan(heights: &[i32], state: usize, i: usize, p: Peak) -> usize
-    requires { i < 1152921504606846976 }
-    ensures { Scans heights.now state i p result }
-{
-    if STOPPED <= state {
-        return state;
-    }
-    if is_sound_at(heights, state, p) {
-        return next_cell(p);
-    }
-    STOPPED + i
-}
-
-// What a scan of n records has found.
-pub fn scanned(state: usize, n: usize) -> usize
-    ensures { result ≡ scanned_of state n }
-{
-    if state < STOPPED {
-        return n;
-    }
-    state - STOPPED
+    None
 }

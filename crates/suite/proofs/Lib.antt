@@ -1,3 +1,2 @@
-mod Answers  -- what the tests tell, and the promise before the records are handed out
-mod Heights  -- the heights of lent bytes loaded as levels
+mod Answers  -- what the tests tell
 pub mod Claims  -- the promise allows one outcome

@@ -3,6 +3,7 @@
 --     list-refused     a test refuses; the list is there all the same
 --     list-made        none does: what a survey of the loaded heights leaves is the list
 -- Assumes nothing.
+use Rattle.std.specs.Prelude.{Result, Ok, Err}
 use mathlib.Core.Path.{◌≡◌, sym, ◌∙◌, subst}
 use mathlib.Core.Bool.{Bool}
 use mathlib.Core.List.{List}
@@ -16,9 +17,6 @@ use Rattle.relief.specs.Inner.{cut}
 use Rattle.relief.proofs.Survey.{survey, survey-list}
 use Rattle.relief.proofs.Shapes.{touch?, shape-terrain}
 use Rattle.record.specs.declared.Refusal.{Refusal}
-use Rattle.record.specs.declared.Checked.TheVariants.{Good, Bad}
-use Rattle.record.specs.declared.Handed.{Handed}
-use Rattle.record.specs.declared.Handed.TheVariants.{Refused}
 use Rattle.record.specs.Refusals.{first_of}
 use Rattle.area.specs.Area.{level_in}
 use Rattle.heights.specs.Inner.{GoodGrid, Loaded}
@@ -35,13 +33,14 @@ grid-surveying g e h q =
     let (area, some, few) = grid-loaded g e h q in record { area = area; rows_some = some; rows_few = few }
 
 module _ (tests : List (Bool × Refusal)) (shape : Shape) (T room : ℕ) (hs : List ℤ) {n : ℕ} {work left : List ℕ} where
-  pub list-refused : {r : Refusal} → first_of tests ≡ Bad r → left ≡ work
-      → HandsFlat tests n (ListOf (touch_of shape) (levels hs) T) work room left (Refused r)
+  pub list-refused : {r : Refusal} → first_of tests ≡ Err r → left ≡ work
+      → HandsFlat tests n (ListOf (touch_of shape) (levels hs) T) work room left (Err r)
   list-refused bad same =
       flat-refused tests (survey (touch? shape) (levels hs) (length hs) T) (survey-list (shape-terrain shape hs) T) bad
       same
 
-  pub list-made : first_of tests ≡ Good → length hs ≡ n → {t : List ℕ} {k : ℕ} {a : Handed} → Loaded work t hs n
+  pub list-made : first_of tests ≡ Ok tt → length hs ≡ n → {t : List ℕ} {k : ℕ} {a : Result ℕ Refusal}
+      → Loaded work t hs n
       → Answered t left n (Listed (touch_of shape) (cut n (level_in t)) T) k → a ≡ room_answer room k
       → HandsFlat tests n (ListOf (touch_of shape) (levels hs) T) work room left a
   list-made good len {t} {k} loaded made =

@@ -1,23 +1,26 @@
 -- Rows that grow by an item at a time, and a lent row that is filled with one from the front.
 --     Grows row item n       the row `row i` has the first i of the items, up to n of them
 --     grows-length, grows_at   its length, and its items
+--     take-grows             the fronts of a row are a row that grows
 --     filled row t i         the row t with the first i items in place of its own
 --     filled-start, filled-step   it is t at 0, and one more item stored makes it that of i + 1
 --     filled-next            the same of a row and an item that are equal to those
---     filled-length          it is as long as t
 -- Assumes nothing.
 use mathlib.Core.List.{List, [], ◌∷◌, ◌++◌}
-use mathlib.Core.Path.{◌≡◌, sym, ap, ◌∙◌}
+use mathlib.Core.Path.{◌≡◌, refl, sym, ap, ◌∙◌}
 use Prim.Native.Nat.{ℕ, zero, suc, ◌+◌, ◌≤◌, ◌<◌}
 use native.Mathlib.Decide.{dec_lt}
 use native.Mathlib.Numerals.{add-one}
 use native.Mathlib.Omega.{arith}
-use lib.ListN.{length, get_or, set, drop, length-append, length-drop, get_or-append}
-use lib.Seq.{get_or_at, drop-cons, set_at, append_snoc}
+use lib.ListN.{length, get_or, set, take, drop, length-append, get_or-append}
+use lib.Seq.{get_or_at, drop-cons, set_at, append_snoc, take-suc}
 
 pub record Grows {A : Type 0} (row : ℕ → List A) (item : ℕ → A) (n : ℕ) : Type 0 where
   pub start : row 0 ≡ []
   pub next : (i : ℕ) → i < n → row (suc i) ≡ row i ++ (item i ∷ [])
+
+pub take-grows : {A : Type 0} (xs : List A) (d : A) → Grows (λ i. take i xs) (λ i. get_or xs i d) (length xs)
+take-grows xs d = record { start = refl; next = λ i l. take-suc xs i d l }
 
 abbrev pub filled : {A : Type 0} → (ℕ → List A) → List A → ℕ → List A
 filled row t i = row i ++ drop i t
@@ -55,6 +58,3 @@ module _ {A : Type 0} {row : ℕ → List A} {item : ℕ → A} {n : ℕ} (g : G
       → x ≡ item i → set u i x ≡ filled row t (i + 1)
   filled-next t i l h u x e f =
       ap (λ (r : List A). set r i x) e ∙ ap (λ (y : A). set (filled row t i) i y) f ∙ filled-step t i l h
-
-  pub filled-length : (t : List A) (i : ℕ) → i ≤ n → i ≤ length t → length (filled row t i) ≡ length t
-  filled-length t i l h = length-append (row i) (drop i t) ∙ omega (arith, grows-length i l, length-drop i t)

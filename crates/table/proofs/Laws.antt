@@ -4,6 +4,7 @@
 --     peak-with-key               the record of another
 --     standing-pointed            what `record_at` asks of the i-th cell, of a work area with so many listed cells
 --     records-grow                the records of the first cells of the order are a row that grows
+--     records-length              .. and how many they are
 -- Assumes nothing.
 use mathlib.Core.Path.{◌≡◌, refl, sym, ◌∙◌}
 use mathlib.Core.List.{List}
@@ -11,6 +12,7 @@ use Prim.Native.Nat.{ℕ, ◌<◌}
 use native.Mathlib.Omega.{arith}
 use borrow.Author.Tests.{eq-eqb, ne_eqb}
 use lib.IntN.{ℤ}
+use lib.ListN.{length}
 use lib.Signed.{mag}
 use mir.Syntax.{w32}
 use mir.Val.{to_z, of_z, SFits}
@@ -21,7 +23,7 @@ use Rattle.record.specs.Records.{with_key, without_key}
 use Rattle.scale.proofs.Levels.{level-injective}
 use Rattle.area.specs.Area.{level_in, order_in, parent_in, pass_in, cell_in}
 use Rattle.table.specs.Inner.{Pointed, peak_in, records_in, Standing}
-use Rattle.table.proofs.Grows.{Grows}
+use Rattle.table.proofs.Grows.{Grows, grows-length}
 
 -- ---- one record
 
@@ -54,3 +56,6 @@ standing-pointed h i l =
 pub records-grow : (s : List ℕ) (n count : ℕ) → Grows (records_in s n) (λ i. peak_in s n (order_in s n i)) count
 unfolding records_in
 records-grow s n count = record { start = refl; next = λ i l. refl }
+
+pub records-length : (s : List ℕ) (n count : ℕ) → length (records_in s n count) ≡ count
+records-length s n count = grows-length (records-grow s n count) count (omega arith)

@@ -5,16 +5,14 @@
 --     Fillable t s n count    the row t has room for them, and the work area s holds cells where they are asked for
 --     Standing s n count      so many listed cells stand in the order quarter, each with a pass cell
 --     room_answer room count  the answer of a call whose work is done
---     count_in, cells_read    how many records an answer has, and of how many cells they are read
 --     HandsFlat               what a call promises that knows only the room of the row
 -- Assumes nothing.
+use Rattle.std.specs.Prelude.{Result, Ok, Err}
 use Rattle.std.specs.Prelude.{◌≡◌, Bool, true, false, cond, List, [], ◌∷◌, ◌++◌, map, ℕ, zero, suc, ◌≤◌, ◌<◌, eqb, ltb}
 use Rattle.std.specs.Prelude.{length}
 use Rattle.relief.specs.Heights.{height_of}
 use Rattle.relief.specs.Peaks.{Entry}
 use Rattle.record.specs.declared.Peak.{Peak}
-use Rattle.record.specs.declared.Handed.{Handed}
-use Rattle.record.specs.declared.Handed.TheVariants.{Count, Refused}
 use Rattle.record.specs.declared.Refusal.{Refusal}
 use Rattle.record.specs.declared.Refusal.TheVariants.{Table}
 use Rattle.record.specs.Records.{with_key, without_key, record_of}
@@ -52,23 +50,15 @@ pub record Fillable (t : List Peak) (s : List ℕ) (n count : ℕ) : Type 0 wher
   pub room : count ≤ length t
 
 -- 5 behind the work: "peak table too short", which also returns "the number of records needed"
-abbrev pub room_answer : ℕ → ℕ → Handed
-room_answer room count = cond (ltb room count) (Refused (Table count)) (Count count)
-
-abbrev pub count_in : Handed → ℕ
-count_in (Count n) = n
-count_in (Refused r) = 0
-
-abbrev pub cells_read : Handed → ℕ → ℕ
-cells_read (Count n) cells = cells
-cells_read (Refused r) cells = 0
+abbrev pub room_answer : ℕ → ℕ → Result ℕ Refusal
+room_answer room count = cond (ltb room count) (Err (Table count)) (Ok count)
 
 -- `Hands` where only the room of the row is known: the records stand in the work area `left`.
 pub record HandsFlat (tests : List (Bool × Refusal)) (cells : ℕ) (Right : List Entry → Type 0) (work : List ℕ)
-    (room : ℕ) (left : List ℕ) (answer : Handed) : Type 0 where
+    (room : ℕ) (left : List ℕ) (answer : Result ℕ Refusal) : Type 0 where
   pub entries : List Entry
   pub right : Right entries
   pub answered : handed_told answer ≡ handed_by tests room (length entries)
-  pub standing : (n : ℕ) → answer ≡ Count n → Standing left cells n × (n ≤ room)
-  pub records : (n : ℕ) → answer ≡ Count n → records_in left cells n ≡ map record_of entries
+  pub standing : (n : ℕ) → answer ≡ Ok n → Standing left cells n × (n ≤ room)
+  pub records : (n : ℕ) → answer ≡ Ok n → records_in left cells n ≡ map record_of entries
   pub worked : Worked tests cells work left

@@ -5,14 +5,12 @@
 --     Worked tests cells w w'        what is known of the work area w after the call, w'
 --     Hands                          the promise, with a lent row of records
 -- Assumes nothing.
+use Rattle.std.specs.Prelude.{Result, Ok, Err}
 use Rattle.std.specs.Prelude.{◌≡◌, Bool, List, [], ◌∷◌, ◌++◌, map, ℕ, ◌*◌, ◌≤◌, ltb, length, drop, get_or}
 use Rattle.relief.specs.Peaks.{Entry}
 use Rattle.record.specs.declared.Peak.{Peak}
-use Rattle.record.specs.declared.Handed.{Handed}
-use Rattle.record.specs.declared.Handed.TheVariants.{Count, Refused}
 use Rattle.record.specs.declared.Refusal.{Refusal}
 use Rattle.record.specs.declared.Refusal.TheVariants.{Table}
-use Rattle.record.specs.declared.Checked.TheVariants.{Bad}
 use Rattle.record.specs.Records.{record_of}
 use Rattle.record.specs.Refusals.{Told, granted, handed_told, first_of, told_by}
 
@@ -22,21 +20,21 @@ abbrev pub handed_by : List (Bool × Refusal) → ℕ → ℕ → Told
 handed_by tests room needed = told_by (tests ++ ((ltb room needed, Table needed) ∷ [])) (granted (needed ∷ []))
 
 -- "A refusal [..] writes nothing"; "On success table entries [..] beyond those counted stay as they were."
-abbrev pub table_after : Handed → List Peak → List Peak → List Peak
-table_after (Count n) records table = records ++ drop n table
-table_after (Refused r) records table = table
+abbrev pub table_after : Result ℕ Refusal → List Peak → List Peak → List Peak
+table_after (Ok n) records table = records ++ drop n table
+table_after (Err r) records table = table
 
 -- The tests are those before the work. "A refusal [..] writes nothing"; "At a refusal that stands after 4 in its call's
 -- order, the work area has been used": 16 bytes a cell of it, and "other lent numbers [..] stay as they were". What
 -- those bytes hold then, and on success, is left open (docs/EXCEPTIONS.md).
 pub record Worked (tests : List (Bool × Refusal)) (cells : ℕ) (work work' : List ℕ) : Type 0 where
-  pub unused : (r : Refusal) → first_of tests ≡ Bad r → work' ≡ work
+  pub unused : (r : Refusal) → first_of tests ≡ Err r → work' ≡ work
   pub same_length : length work' ≡ length work
   pub beyond : (i : ℕ) → 16 * cells ≤ i → get_or work' i 0 ≡ get_or work i 0
 
 -- Right is what the call hands out: a list, a batch, or the rest of a run.
 pub record Hands (tests : List (Bool × Refusal)) (cells : ℕ) (Right : List Entry → Type 0) (work work' : List ℕ)
-    (table table' : List Peak) (answer : Handed) : Type 0 where
+    (table table' : List Peak) (answer : Result ℕ Refusal) : Type 0 where
   pub entries : List Entry
   pub right : Right entries
   pub answered : handed_told answer ≡ handed_by tests (length table) (length entries)

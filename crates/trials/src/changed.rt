@@ -1,80 +1,84 @@
-// Accounts and rows that are changed in one number, or in how many they have.
-use second::MAX;
-use second_accounts::{Account, Row, empty, number_at, with};
+// Key heights and rows that are changed in one number, or in how many they have.
+use second::{BLANK, MAX};
+use second_accounts::Row;
 
-// The account with a key height that is one higher; the lowest height where there was none.
-pub fn raised(account: Account) -> Account {
-    with_level(account, beside(record::level(account.key), true))
+// The key height that is one higher; the lowest height where there was none.
+pub fn raised(key: Option<i32>) -> Option<i32> {
+    of_level(level_of(key).wrapping_add(1))
 }
 
-// The account with a key height that is one lower; none where it was the lowest height.
-pub fn lowered(account: Account) -> Account {
-    with_level(account, beside(record::level(account.key), false))
+// The key height that is one lower; none where it was the lowest height.
+pub fn lowered(key: Option<i32>) -> Option<i32> {
+    of_level(level_of(key).wrapping_sub(1))
 }
 
-// The account with the key height of a level. Level 0 is that of the mark of a missing one.
-fn with_level(account: Account, level: u32) -> Account {
-    let mut next = account;
-    next.key = record::height(level);
+// The level of a key height. Level 0 is that of a missing one.
+fn level_of(key: Option<i32>) -> u32 {
+    record::level(key.unwrap_or(BLANK))
+}
+
+// The key height of a level.
+fn of_level(level: u32) -> Option<i32> {
+    Some(record::height(level)).filter(|key| *key != BLANK)
+}
+
+// The row with the number at a place made one more, or one less. The least and the greatest number are beside each
+// other.
+// A flag: of a closure each of four calls would name a method of `u32`.
+pub fn moved(row: &[u32], place: usize, above: bool) -> Row {
+    let mut next = Row::from(row);
+    if let Some(number) = next.as_mut_slice().get_mut(place) {
+        *number = if above {
+            number.wrapping_add(1)
+        } else {
+            number.wrapping_sub(1)
+        };
+    }
     next
 }
 
-// The number above a number or below it. The least and the greatest are beside each other.
-fn beside(n: u32, above: bool) -> u32 {
-    if above {
-        return std::num::wrapping_add_u32(n, 1);
-    }
-    std::num::wrapping_sub_u32(n, 1)
-}
-
-// The row with the number at a place made one more, or one less.
-pub fn moved(row: Row, place: usize, above: bool) -> Row {
-    let mut numbers = row.numbers;
-    if place >= MAX {
-        return row;
-    }
-    numbers[place] = beside(number_at(row, place), above);
-    Row {
-        numbers: numbers,
-        count: row.count,
-    }
-}
-
 // The row without the number at a place.
-pub fn without(row: Row, place: usize) -> Row {
-    let mut next = empty();
-    for i in 0..row.count {
+pub fn without(row: &[u32], place: usize) -> Row {
+    let mut next = Row::new();
+    for (i, number) in row.iter().enumerate() {
         if i != place {
-            next = with(next, number_at(row, i));
+            next.push(*number);
         }
     }
     next
 }
 
 // The row with a number behind it that is one more than its last one.
-pub fn longer(row: Row) -> Row {
-    with(row, beside(number_at(row, last(row)), true))
+pub fn longer(row: &[u32]) -> Row {
+    let mut next = Row::from(row);
+    next.push(number_at(row, last(row)).wrapping_add(1));
+    next
 }
 
 // The row with one of its numbers once more behind it.
-pub fn repeated(row: Row, place: usize) -> Row {
-    with(row, number_at(row, place))
+pub fn repeated(row: &[u32], place: usize) -> Row {
+    let mut next = Row::from(row);
+    next.push(number_at(row, place));
+    next
 }
 
 // The path with a step to its second cell and back before it.
-pub fn wandering(path: Row) -> Row {
-    let mut next = with(with(empty(), number_at(path, 0)), number_at(path, 1));
-    for i in 0..path.count {
-        next = with(next, number_at(path, i));
+pub fn wandering(path: &[u32]) -> Row {
+    let mut next = Row::new();
+    next.push(number_at(path, 0));
+    next.push(number_at(path, 1));
+    for number in path {
+        next.push(*number);
     }
     next
 }
 
+// The number at a place of a row; `MAX`, which is no cell, where the row has no such place.
+fn number_at(row: &[u32], place: usize) -> u32 {
+    row.get(place).copied().unwrap_or(MAX as u32)
+}
+
 // The last place of a row; the first one where it has none.
-pub fn last(row: Row) -> usize {
-    let count = row.count;
-    if count == 0 {
-        return 0;
-    }
-    count - 1
+pub fn last(row: &[u32]) -> usize {
+    row.len().saturating_sub(1)
 }

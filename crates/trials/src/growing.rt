@@ -1,89 +1,73 @@
 // On made-up runs, that both listers hand out the same at each column and at End, with refused calls in between.
-use crate::both::{Lent, Turn, byte_short, end_agrees, enough, offer, room_short};
+use crate::both::{Lent, end_agrees, offer};
 use crate::forged::forged_agree;
-use crate::random::CELLS;
-use lent::answers::{behind, narrow};
-use run::{Run, Started};
+use crate::random::{CELLS, Drawn};
+use lent::answers::{last_apart, narrow};
+use run::Run;
 use second::Records;
 
 // Whether they agree on every call of a run, and on forged records of as many rows.
-pub fn agrees(rows: usize, heights: &[i32], threshold: u32, column: &[i32]) -> bool {
-    run_from_start(rows, heights, threshold) && forged_agree(narrow(rows), threshold, column)
+pub fn agrees(drawn: &Drawn) -> bool {
+    let rows = narrow(drawn.rows);
+    run::start(rows, drawn.threshold).is_ok_and(|run| run_agrees(run, drawn))
+        && forged_agree(rows, drawn.threshold, drawn.column())
 }
 
-// Whether they agree on a run that is started with these rows and given these columns.
-fn run_from_start(rows: usize, heights: &[i32], threshold: u32) -> bool {
-    match run::start(narrow(rows), threshold) {
-        Started::Begun(run) => run_on(run, rows, heights),
-        Started::Refused(_) => false,
-    }
-}
-
-// Whether they agree on the columns, offered one by one, and on End.
-fn run_on(run: Run, rows: usize, heights: &[i32]) -> bool {
+// Whether they agree on a run that has begun.
+fn run_agrees(run: Run, drawn: &Drawn) -> bool {
     let mut grid = [0i32; CELLS];
+    run_on(run, drawn, &mut grid).is_some_and(|run| ends(run, drawn, &grid))
+}
+
+// The run after all columns, offered one by one, if they agree on these.
+fn run_on(run: Run, drawn: &Drawn, grid: &mut [i32]) -> Option<Run> {
+    let (rows, heights) = (drawn.rows, drawn.heights());
     let mut now = run;
-    let mut end = 0;
     if rows == 0 {
-        return false;
+        return None;
     }
-    while rows <= heights.len() - end {
-        let turn = column_turn(now, rows, &heights[0..end + rows], end, &mut grid);
-        if !turn.agrees {
-            return false;
-        }
-        end += rows;
-        now = turn.run;
+    for end in (rows..=heights.len()).step_by(rows) {
+        now = column_turn(now, rows, &heights[..end], grid)?;
     }
-    ends(now, rows, heights, &grid)
+    Some(now)
 }
 
-// Offers the column behind the first `before` cells: first so that it is refused, then as it should be. The run goes on
-// with the record that the last of these calls gives.
-fn column_turn(run: Run, rows: usize, heights: &[i32], before: usize, grid: &mut [i32]) -> Turn {
-    let mut records = [0i64; 256];
-    let count = second::batch(rows, heights, run.threshold, &mut records);
-    let lent = enough(heights.len(), count);
-    let offered = behind(heights, before);
-    if !refusals_agree(run, offered, grid, lent, &records, count) {
-        return Turn {
-            run: run,
-            agrees: false,
-        };
-    }
-    offer(run, offered, grid, lent, &records, count)
+// Offers the last column of these cells: first so that it is refused, then as it should be. The run goes on with the
+// record that the last of these calls gives.
+fn column_turn(run: Run, rows: usize, heights: &[i32], grid: &mut [i32]) -> Option<Run> {
+    let records = second::batch(rows, heights, run.threshold);
+    let lent = Lent::enough(heights.len(), records.as_slice().len());
+    let (_, offered) = last_apart(narrow(rows), heights);
+    refused_turns(run, offered, grid, lent, &records)?;
+    offer(run, offered, grid, lent, &records)
 }
 
-// Whether they agree on a column of the wrong length, a work area a byte short, and a table a record short. Where
-// nothing is handed out the last is no refusal; the column is then offered again to the record as it was.
-fn refusals_agree(
+// A column of the wrong length, a work area a byte short, and a table a record short. Where nothing is handed out the
+// last is no refusal; the column is then offered again to the record as it was.
+fn refused_turns(
     run: Run,
     offered: &[i32],
     grid: &mut [i32],
     lent: Lent,
     records: &Records,
-    count: usize,
-) -> bool {
-    if !in_turn(offer(run, behind(offered, 1), grid, lent, records, count)) {
-        return false;
-    }
-    if !in_turn(offer(run, offered, grid, byte_short(lent), records, count)) {
-        return false;
-    }
-    in_turn(offer(run, offered, grid, room_short(lent), records, count))
-}
-
-// Whether the listers agree in a turn.
-fn in_turn(turn: Turn) -> bool {
-    turn.agrees
+) -> Option<Run> {
+    offer(
+        run,
+        offered.get(1..).unwrap_or(offered),
+        grid,
+        lent,
+        records,
+    )?;
+    offer(run, offered, grid, lent.byte_short(), records)?;
+    offer(run, offered, grid, lent.room_short(), records)
 }
 
 // Whether they agree on End: a byte short, a record short, and as it should be.
-fn ends(run: Run, rows: usize, heights: &[i32], grid: &[i32]) -> bool {
-    let mut records = [0i64; 256];
-    let count = second::rest(rows, heights, run.threshold, &mut records);
-    let lent = enough(heights.len(), count);
-    end_agrees(run, grid, byte_short(lent), &records, count)
-        && end_agrees(run, grid, room_short(lent), &records, count)
-        && end_agrees(run, grid, lent, &records, count)
+fn ends(run: Run, drawn: &Drawn, grid: &[i32]) -> bool {
+    let heights = drawn.heights();
+    let records = second::rest(drawn.rows, heights, run.threshold);
+    let lent = Lent::enough(heights.len(), records.as_slice().len());
+    end_agrees(run, grid, lent.byte_short(), &records)
+        && end_agrees(run, grid, lent.room_short(), &records)
+        && end_agrees(run, grid, lent, &records)
 }

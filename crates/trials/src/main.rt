@@ -9,7 +9,7 @@ mod accounts; // accounts.rt: both listers on accounts, and the check of changed
 mod backwards; // backwards.rt: the list of a grid that is read backwards
 mod batches; // batches.rt: the batches of a run are the list, pass cells apart
 mod both; // both.rt: one call of both listers, accepted or refused
-mod changed; // changed.rt: accounts and rows that are changed
+mod changed; // changed.rt: key heights and rows that are changed
 mod forged; // forged.rt: run records that are refused
 mod growing; // growing.rt: both listers on runs
 mod lists; // lists.rt: both listers on grids
@@ -17,8 +17,7 @@ mod outlines; // outlines.rt: both listers on outlines
 mod random; // random.rt: made-up grids
 mod refiled; // refiled.rt: run files written and read back
 
-use crate::random::CELLS;
-use lent_accounts::NO;
+use crate::random::Drawn;
 use std::io;
 
 // How many made-up grids each relation is tried on.
@@ -34,31 +33,6 @@ const FIRST_ACCOUNT: u64 = 1150;
 
 const END: u64 = 1300;
 
-// What is tried.
-#[derive(Clone, Copy)]
-enum Trial {
-    // The batches of a run are its list, pass cells apart.
-    Batches,
-    // A pass cell that was handed out is not that of the list.
-    Moves,
-    // A grid without equal heights has the same list backwards.
-    Backwards,
-    // The list is written to a file and read back the same.
-    Refiled,
-    // Both listers answer list calls alike.
-    Lists,
-    // Both listers answer the calls of a run alike.
-    Growing,
-    // Both listers answer outline calls alike.
-    Outlines,
-    // Both listers answer account calls alike, and say the same to accounts.
-    Accounts,
-    // The check says yes to an account whose path was changed.
-    Accepted,
-    // The check says no to one.
-    Declined,
-}
-
 fn main(rt: HostRuntime) -> io::Result<()> {
     related(&rt)?;
     compared(&rt)?;
@@ -67,154 +41,82 @@ fn main(rt: HostRuntime) -> io::Result<()> {
 
 // Prints on how many made-up grids two answers are related as they must be.
 fn related(rt: &impl Print) -> io::Result<()> {
-    say_of_all(rt, count(rt, Trial::Batches, 0, GRIDS)?)?;
-    say(
-        rt,
-        b" runs: batches and list agree, pass cells apart, which only move to earlier ones\n",
+    let agreed = count(rt, 0, GRIDS, |n| batches::agree(&Drawn::new(n)))?;
+    println!(rt;
+        "{agreed} of {GRIDS} runs: batches and list agree, pass cells apart, which only move to earlier ones"
     )?;
-    say_if_some(rt, Trial::Moves, 0, GRIDS)?;
-    say(rt, b" of these runs a pass cell moves\n")?;
-    say_of_all(rt, count(rt, Trial::Backwards, 0, GRIDS)?)?;
-    say(
-        rt,
-        b" grids without equal heights: the list read backwards agrees\n",
+    let moves = some(0, GRIDS, |n| batches::differ_in_a_pass(&Drawn::new(n)));
+    println!(rt; "{moves} of these runs a pass cell moves")?;
+    let agreed = count(rt, 0, GRIDS, |n| backwards::agrees(&Drawn::apart(n)))?;
+    println!(rt;
+        "{agreed} of {GRIDS} grids without equal heights: the list read backwards agrees"
     )?;
-    say_of_all(rt, count(rt, Trial::Refiled, 0, GRIDS)?)?;
-    say(rt, b" lists: written to a file and read back the same\n")
-}
-
-// Prints whether there is such a one among those from `start` on and below `end`. Without one they would not try it.
-fn say_if_some(rt: &impl Print, trial: Trial, start: u64, end: u64) -> io::Result<()> {
-    if some(trial, start, end) {
-        say(rt, b"in some")
-    } else {
-        say(rt, b"in none")
-    }
-}
-
-// Whether there is one.
-fn some(trial: Trial, start: u64, end: u64) -> bool {
-    for n in start..end {
-        if drawn_agrees(trial, n) {
-            return true;
-        }
-    }
-    false
+    let agreed = count(rt, 0, GRIDS, |n| refiled::agrees(&Drawn::new(n)))?;
+    println!(rt; "{agreed} of {GRIDS} lists: written to a file and read back the same")
 }
 
 // Prints on how many made-up grids, runs and outlines both listers agree.
 fn compared(rt: &impl Print) -> io::Result<()> {
-    say_count(rt, count(rt, Trial::Lists, GRIDS, FIRST_RUN)?)?;
-    say(
+    let grids = count(rt, GRIDS, FIRST_RUN, |n| lists::agree(&Drawn::new(n)))?;
+    println!(rt; "{grids} grids: both listers agree, refusals too, and other entries stay")?;
+    let runs = count(
         rt,
-        b" grids: both listers agree, refusals too, and other entries stay\n",
+        FIRST_RUN,
+        FIRST_OUTLINE,
+        |n| growing::agrees(&Drawn::new(n)),
     )?;
-    say_count(rt, count(rt, Trial::Growing, FIRST_RUN, FIRST_OUTLINE)?)?;
-    say(
+    println!(rt; "{runs} runs: both listers agree, refusals too, and other entries stay")?;
+    let outlines = count(
         rt,
-        b" runs: both listers agree, refusals too, and other entries stay\n",
+        FIRST_OUTLINE,
+        FIRST_ACCOUNT,
+        |n| outlines::agree(&Drawn::new(n)),
     )?;
-    say_count(
-        rt,
-        count(rt, Trial::Outlines, FIRST_OUTLINE, FIRST_ACCOUNT)?,
-    )?;
-    say(
-        rt,
-        b" outlines: both listers agree, refusals too, and other bytes stay\n",
-    )
+    println!(rt; "{outlines} outlines: both listers agree, refusals too, and other bytes stay")
 }
 
 // Prints on how many made-up grids both listers agree on accounts, and that some changed path is accepted, some is not.
 fn accounted(rt: &impl Print) -> io::Result<()> {
-    say_count(rt, count(rt, Trial::Accounts, FIRST_ACCOUNT, END)?)?;
-    say(
-        rt,
-        b" grids: both listers agree on accounts, the check of changed ones and refusals, and other numbers stay\n",
+    let grids = count(rt, FIRST_ACCOUNT, END, |n| accounts::agree(&Drawn::new(n)))?;
+    println!(rt;
+        "{grids} grids: both listers agree on accounts, the check of changed ones and refusals, and other numbers stay"
     )?;
-    say_if_some(rt, Trial::Accepted, FIRST_ACCOUNT, END)?;
-    say(rt, b" of these grids a changed path is accepted\n")?;
-    say_if_some(rt, Trial::Declined, FIRST_ACCOUNT, END)?;
-    say(rt, b" of these grids a changed path is not accepted\n")
+    let accepted = some(
+        FIRST_ACCOUNT,
+        END,
+        |n| accounts::changed_gets(Some(Ok(true)), &Drawn::new(n)),
+    );
+    println!(rt; "{accepted} of these grids a changed path is accepted")?;
+    let declined = some(
+        FIRST_ACCOUNT,
+        END,
+        |n| accounts::changed_gets(Some(Ok(false)), &Drawn::new(n)),
+    );
+    println!(rt; "{declined} of these grids a changed path is not accepted")
 }
 
-// How many of those from `start` on and below `end` are as they must be.
-fn count(rt: &impl Print, trial: Trial, start: u64, end: u64) -> io::Result<u64> {
+// How many of the numbers from `start` on and below `end` are as they must be. The others are printed.
+fn count<F: Fn(u64) -> bool>(rt: &impl Print, start: u64, end: u64, agrees: F) -> io::Result<u64>
+    requires { F.IsAlwaysCallable agrees }
+{
     let mut agreed = 0;
     for n in start..end {
-        agreed = counted(rt, n, drawn_agrees(trial, n), agreed)?;
+        if agrees(n) {
+            agreed += 1;
+        } else {
+            println!(rt; "differs: number {n}")?;
+        }
     }
     Ok(agreed)
 }
 
-// Counts one more where the answer is yes, and prints the number where it is no.
-fn counted(rt: &impl Print, n: u64, yes: bool, agreed: u64) -> io::Result<u64> {
-    if !yes {
-        say(rt, b"differs: number ")?;
-        say_count(rt, n)?;
-        say(rt, b"\n")?;
-        return Ok(agreed);
-    }
-    if agreed < u64::MAX {
-        Ok(agreed + 1)
+// Whether there is such a one among those numbers. Without one they would not try it.
+fn some<F: Fn(u64) -> bool>(start: u64, end: u64, is_such: F) -> &'static str
+    requires { F.IsAlwaysCallable is_such }
+{
+    if (start..end).any(|n| is_such(n)) {
+        "in some"
     } else {
-        Ok(agreed)
+        "in none"
     }
-}
-
-// Whether the grid or run of that number is as the trial says.
-fn drawn_agrees(trial: Trial, n: u64) -> bool {
-    let mut heights = [0i32; CELLS];
-    draw(trial, n, &mut heights);
-    let rows = random::rows_of(n);
-    let grid = random::first(&heights, random::cells_of(n));
-    let column = random::first(&heights, rows);
-    let threshold = random::threshold_of(n);
-    agrees(trial, rows, grid, threshold, column, random::levels_of(n))
-}
-
-fn draw(trial: Trial, n: u64, heights: &mut [i32; CELLS]) {
-    match trial {
-        Trial::Backwards => random::fill_apart(n, heights),
-        _ => random::fill(n, heights),
-    }
-}
-
-// Whether a grid is as the trial says; the column is there to be offered beyond it, and the levels for its outline.
-fn agrees(
-    trial: Trial,
-    rows: usize,
-    heights: &[i32],
-    threshold: u32,
-    column: &[i32],
-    levels: u32,
-) -> bool {
-    match trial {
-        Trial::Batches => batches::agree(rows, heights, threshold),
-        Trial::Moves => batches::differ_in_a_pass(rows, heights, threshold),
-        Trial::Backwards => backwards::agrees(rows, heights, threshold),
-        Trial::Refiled => refiled::agrees(rows, heights, threshold),
-        Trial::Lists => lists::agree(rows, heights, threshold),
-        Trial::Growing => growing::agrees(rows, heights, threshold, column),
-        Trial::Outlines => outlines::agree(rows, heights, threshold, levels),
-        Trial::Accounts => accounts::agree(rows, heights),
-        Trial::Accepted => accounts::changed_gets(0, rows, heights),
-        Trial::Declined => accounts::changed_gets(NO, rows, heights),
-    }
-}
-
-// ---- words and numbers on standard output
-
-fn say(rt: &impl Print, text: &[u8]) -> io::Result<()> {
-    rt.write_all(text)
-}
-
-fn say_count(rt: &impl Print, n: u64) -> io::Result<()> {
-    rt.print(n)
-}
-
-// Writes how many of all agree.
-fn say_of_all(rt: &impl Print, agreed: u64) -> io::Result<()> {
-    say_count(rt, agreed)?;
-    say(rt, b" of ")?;
-    say_count(rt, GRIDS)
 }

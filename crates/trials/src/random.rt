@@ -9,6 +9,52 @@ const KINDS: u64 = 7;
 
 const DIVIDED: u64 = 5;
 
+// What is drawn for a number: a grid, which a run grows to, and with it a threshold and levels of an outline.
+// `cells` beside the array: a column to be offered beyond the grid is taken from it too.
+#[derive(Clone, Copy)]
+pub struct Drawn {
+    pub rows: usize,
+    pub threshold: u32,
+    pub levels: u32,
+    cells: usize,
+    filled: [i32; CELLS],
+}
+
+impl Drawn {
+    // Few values, many ties, blanks and the two extremes, by the kind of the grid.
+    pub fn new(n: u64) -> Drawn {
+        Drawn::of(n, |cell| height_of(n, cell, draw(n, cell)))
+    }
+
+    // Heights of which no two are equal, with some blanks.
+    pub fn apart(n: u64) -> Drawn {
+        Drawn::of(n, |cell| apart(draw(n, cell), cell))
+    }
+
+    // The grid whose cells have these heights.
+    fn of<F: Fn(u64) -> i32>(n: u64, height: F) -> Drawn
+        requires { F.IsAlwaysCallable height }
+    {
+        Drawn {
+            rows: rows_of(n),
+            threshold: threshold_of(n),
+            levels: levels_of(n),
+            cells: cells_of(n),
+            filled: std::array::from_fn(|cell| height(cell as u64)),
+        }
+    }
+
+    // The heights of the grid.
+    pub fn heights(&self) -> &[i32] {
+        &self.filled[..self.cells.min(CELLS)]
+    }
+
+    // As many heights as a column has, to be offered beyond the grid.
+    pub fn column(&self) -> &[i32] {
+        &self.filled[..self.rows.min(CELLS)]
+    }
+}
+
 // One step of a shift register of 64 bits (xorshift).
 fn step(x: u64) -> u64 {
     let a = x ^ (x << 13);
@@ -23,39 +69,27 @@ fn draw(n: u64, place: u64) -> u64 {
 }
 
 // The number of rows, 1 to 8.
-pub fn rows_of(n: u64) -> usize {
+fn rows_of(n: u64) -> usize {
     (draw(n, 40) % 8) as usize + 1
 }
 
 // The number of cells, whole columns and at most `CELLS`.
-pub fn cells_of(n: u64) -> usize {
+fn cells_of(n: u64) -> usize {
     let most = most_of(n);
-    let rows = rows_of(n);
-    if rows == 0 {
-        return 0;
-    }
-    most - most % rows
+    most - most.checked_rem(rows_of(n)).unwrap_or(0)
 }
 
 // The number of cells if columns need not be whole. A divided grid has as many as it can, for passes to move.
 fn most_of(n: u64) -> usize {
     if n % KINDS >= DIVIDED {
-        return CELLS;
+        CELLS
+    } else {
+        (draw(n, 41) % 41) as usize
     }
-    (draw(n, 41) % 41) as usize
-}
-
-// The cells of the grid, of those that were filled in.
-pub fn first<'a>(heights: &'a [i32; CELLS], cells: usize) -> &'a [i32] {
-    let all: &'a [i32] = heights;
-    if cells <= all.len() {
-        return &all[0..cells];
-    }
-    all
 }
 
 // The threshold, small ones twice as often.
-pub fn threshold_of(n: u64) -> u32 {
+fn threshold_of(n: u64) -> u32 {
     match draw(n, 42) % 10 {
         0 => 0,
         1 | 2 => 1,
@@ -68,22 +102,8 @@ pub fn threshold_of(n: u64) -> u32 {
 }
 
 // The levels of an outline, 1 to 64.
-pub fn levels_of(n: u64) -> u32 {
+fn levels_of(n: u64) -> u32 {
     (draw(n, 43) % 64) as u32 + 1
-}
-
-// Fills in the heights: few values, many ties, blanks and the two extremes, by the kind of the grid.
-pub fn fill(n: u64, heights: &mut [i32; CELLS]) {
-    for cell in 0..CELLS {
-        heights[cell] = height_of(n, cell as u64, draw(n, cell as u64));
-    }
-}
-
-// Fills in heights of which no two are equal, with some blanks.
-pub fn fill_apart(n: u64, heights: &mut [i32; CELLS]) {
-    for cell in 0..CELLS {
-        heights[cell] = apart(draw(n, cell as u64), cell as u64);
-    }
 }
 
 // The height of a cell of a grid of that number, by its draw.
@@ -130,9 +150,10 @@ fn of_extremes(drawn: u64) -> i32 {
 
 fn of_many(drawn: u64) -> i32 {
     if drawn % 9 == 0 {
-        return BLANK;
+        BLANK
+    } else {
+        (drawn / 9 % 16) as i32
     }
-    (drawn / 9 % 16) as i32
 }
 
 // Few heights, so far apart that most peaks are listed at most thresholds.
@@ -151,12 +172,12 @@ fn of_few(drawn: u64) -> i32 {
 // there.
 fn of_divided(rows: u64, cell: u64, drawn: u64) -> i32 {
     if cell == 1 {
-        return 0;
+        0
+    } else if rows != 0 && cell % rows == 1 {
+        BLANK
+    } else {
+        of_land(drawn)
     }
-    if rows != 0 && cell % rows == 1 {
-        return BLANK;
-    }
-    of_land(drawn)
 }
 
 fn of_land(drawn: u64) -> i32 {

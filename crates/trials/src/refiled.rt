@@ -1,77 +1,54 @@
 // On made-up grids, that the list is written and read back the same, and that a room, a row of heights and a row of
 // records with one too little are refused.
-use crate::random::CELLS;
+use crate::random::{CELLS, Drawn};
 use lent::answers::narrow;
-use lent::files::{Held, front, list_of, read, read_told, write};
-use lent::first::Told;
-use lent::same::same_back;
+use lent::files::{BYTES, Held, read, write};
+use lent::told::{Told, also};
 
 // Whether the file of a grid is as it should be.
-pub fn agrees(rows: usize, heights: &[i32], threshold: u32) -> bool {
-    let held = list_of(narrow(rows), heights, threshold);
+pub fn agrees(drawn: &Drawn) -> bool {
+    let (rows, heights) = (narrow(drawn.rows), drawn.heights());
+    let held = Held::list_of(rows, heights, drawn.threshold);
     let bytes = bytes_of(heights.len(), held.count);
-    write_agrees(narrow(rows), heights, held, bytes)
-        && read_agrees(narrow(rows), heights, held, bytes)
+    write_agrees(rows, heights, &held, bytes) && read_agrees(rows, heights, &held, bytes)
 }
 
 // "offset of peaks + 16n", which is 24 + 4 x cells + 16n. No made-up grid has more cells or records than `CELLS`.
 fn bytes_of(cells: usize, count: usize) -> usize {
-    if cells > CELLS {
-        return 0;
-    }
-    if count > CELLS {
-        return 0;
-    }
-    24 + 4 * cells + 16 * count
+    24 + 4 * cells.min(CELLS) + 16 * count.min(CELLS)
 }
 
 // Whether the file is written into as many bytes as it has, and refused with one less.
-fn write_agrees(rows: u32, heights: &[i32], held: Held, bytes: usize) -> bool {
+fn write_agrees(rows: u32, heights: &[i32], held: &Held, bytes: usize) -> bool {
     let filed = write(rows, heights, held, bytes);
-    let short = write(rows, heights, held, one_less(bytes));
-    tells(filed.told, 0, bytes) && tells(short.told, 13, bytes)
+    let short = write(rows, heights, held, bytes.saturating_sub(1));
+    tells(&filed.told, Ok(bytes)) && tells(&short.told, Err((13, bytes)))
 }
 
 // Whether it is read back the same, and refused where a cell or an entry is missing.
-fn read_agrees(rows: u32, heights: &[i32], held: Held, bytes: usize) -> bool {
+fn read_agrees(rows: u32, heights: &[i32], held: &Held, bytes: usize) -> bool {
     let filed = write(rows, heights, held, bytes);
-    let file = filed.file;
-    reads_same(front(&file, bytes), rows, heights, held)
-        && reads_short(front(&file, bytes), heights.len(), held.count)
+    let file = &filed.file[..bytes.min(BYTES)];
+    read(file, heights.len(), held.count).is(rows, heights, held)
+        && cells_short(file, heights.len(), held.count)
+        && entries_short(file, heights.len(), held.count)
 }
 
-fn reads_same(file: &[u8], rows: u32, heights: &[i32], held: Held) -> bool {
-    let taken = read(file, heights.len(), held.count);
-    same_back(taken, rows, heights, held)
-}
-
-// Without a cell or without a record, none is missing.
-fn reads_short(file: &[u8], cells: usize, count: usize) -> bool {
-    cells_short(file, cells, count) && entries_short(file, cells, count)
-}
-
+// Without a cell, none is missing.
 fn cells_short(file: &[u8], cells: usize, count: usize) -> bool {
-    if cells == 0 {
-        return true;
-    }
-    tells(read_told(read(file, cells - 1, count)), 13, cells)
+    cells == 0 || tells(&read(file, cells - 1, count).told(), Err((13, cells)))
 }
 
+// Without a record, none is missing.
 fn entries_short(file: &[u8], cells: usize, count: usize) -> bool {
-    if count == 0 {
-        return true;
-    }
-    tells(read_told(read(file, cells, count - 1)), 5, count)
+    count == 0 || tells(&read(file, cells, count - 1).told(), Err((5, count)))
 }
 
-fn one_less(bytes: usize) -> usize {
-    if bytes == 0 {
-        return 0;
-    }
-    bytes - 1
-}
-
-// Whether a call tells that refusal and that number, and all that it does not count is as it was.
-fn tells(told: Told, refusal: u32, number: usize) -> bool {
-    told.refusal == refusal && told.count == number && told.kept
+// Whether a call tells that number, or that refusal with the number that it returns, and all that it does not count is
+// as it was.
+fn tells(told: &Told<usize>, wanted: Result<usize, (u32, usize)>) -> bool {
+    let own = told.answer.map_err(|refusal| {
+        (record::number(refusal), also(refusal).unwrap_or(0) as usize)
+    });
+    told.kept && own == wanted
 }

@@ -3,19 +3,22 @@
 --     word_below       a number of bytes fits in 32 bits
 --     word_bytes       lists that have one number at a place have the same bytes there
 --     bytes-beyond     so numbers that stayed from a place on are bytes that stayed
---     store_word       four bytes stored make the number, and leave every other number as it was
+--     store_word       the bytes of a number laid over its place make the number, and leave every other as it was
 -- Assumes nothing.
-use mathlib.Core.Path.{◌≡◌, sym, subst}
+use mathlib.Core.Path.{◌≡◌, refl, sym, subst}
 use mathlib.Core.List.{List}
-use Prim.Native.Nat.{ℕ, ◌+◌, ◌*◌, ◌/◌, ◌%◌, ◌≤◌, ◌<◌}
+use mathlib.Core.Logic.{inl, inr}
+use Prim.Native.Nat.{ℕ, ◌+◌, ◌-◌, ◌*◌, ◌/◌, ◌%◌, ◌≤◌, ◌<◌}
 use native.Mathlib.Nat.{add-zero}
 use native.Mathlib.Omega.{arith}
 use native.Mathlib.Decide.{ℕ_discrete}
-use lib.ListN.{length, get_or, set, length-set}
-use lib.Seq.{get_or-set_same, get_or-set_other}
+use lib.ListN.{length, get_or}
 use mir.Syntax.{w8}
 use mir.Val.{Fits}
-use Rattle.words.specs.Words.{word_at, Stored}
+use Rattle.std.specs.Int.{w32, to_le_bytes}
+use Rattle.std.proofs.lemmas.Bool.{cases_lt}
+use Rattle.words.specs.Words.{word_at, Stored, over}
+use Rattle.words.proofs.Over.{over-length, over-before, over-in, over-behind}
 
 abbrev pub Bytes : List ℕ → Type 0
 Bytes s = (k : ℕ) → Fits w8 (get_or s k 0)
@@ -59,67 +62,37 @@ module _ (s t : List ℕ) (b : Bytes s) (d : Bytes t) where
 
 -- ---- a number stored
 
--- s with the bytes a, b, c, d at `at` and behind it
-abbrev four_at : List ℕ → ℕ → ℕ → ℕ → ℕ → ℕ → List ℕ
-four_at s at a b c d = set (set (set (set s at a) (at + 1) b) (at + 2) c) (at + 3) d
-
-module _ (s : List ℕ) (at a b c d : ℕ) (fits : at + 4 ≤ length s) where
-  four-length : length (four_at s at a b c d) ≡ length s
-  four-length = simp length-set
-
-  four-0 : get_or (four_at s at a b c d) at 0 ≡ a
-  four-0 =
-      let n1 : at ≡ at + 1 → ⊥ = omega arith in
-      let n2 : at ≡ at + 2 → ⊥ = omega arith in
-      let n3 : at ≡ at + 3 → ⊥ = omega arith in
-      let h : at < length s = omega arith in
-      simp (get_or-set_other, get_or-set_same)
-
-  four-1 : get_or (four_at s at a b c d) (at + 1) 0 ≡ b
-  four-1 =
-      let n2 : at + 1 ≡ at + 2 → ⊥ = omega arith in
-      let n3 : at + 1 ≡ at + 3 → ⊥ = omega arith in
-      let h : at + 1 < length (set s at a) = simp length-set (omega arith) in
-      simp (get_or-set_other, get_or-set_same)
-
-  four-2 : get_or (four_at s at a b c d) (at + 2) 0 ≡ c
-  four-2 =
-      let n3 : at + 2 ≡ at + 3 → ⊥ = omega arith in
-      let h : at + 2 < length (set (set s at a) (at + 1) b) = simp length-set (omega arith) in
-      simp (get_or-set_other, get_or-set_same)
-
-  four-3 : get_or (four_at s at a b c d) (at + 3) 0 ≡ d
-  four-3 =
-      let h : at + 3 < length (set (set (set s at a) (at + 1) b) (at + 2) c) = simp length-set (omega arith) in
-      simp get_or-set_same
-
-  four-other : (j : ℕ) → (j ≡ at → ⊥) → (j ≡ at + 1 → ⊥) → (j ≡ at + 2 → ⊥) → (j ≡ at + 3 → ⊥)
-      → get_or (four_at s at a b c d) j 0 ≡ get_or s j 0
-  four-other j n0 n1 n2 n3 = simp get_or-set_other
-
+-- The bytes of v laid over those of the i-th place.
 pub store_word : (s : List ℕ) (i v : ℕ) → 4 * i + 4 ≤ length s → v < 4294967296
-    → Stored s (four_at s (4 * i) (v % 256) (v / 256 % 256) (v / 65536 % 256) (v / 16777216)) i v
+    → Stored s (over s (4 * i) (to_le_bytes w32 v)) i v
 unfolding word_at
-store_word s i v fits below =
-    let b0 = v % 256 in
-    let b1 = v / 256 % 256 in
-    let b2 = v / 65536 % 256 in
-    let b3 = v / 16777216 in
-    let other : (j k : ℕ) → (j ≡ i → ⊥) → k < 4
-    → get_or (four_at s (4 * i) b0 b1 b2 b3) (4 * j + k) 0 ≡ get_or s (4 * j + k) 0 = λ j k n l.
-    four-other s (4 * i) b0 b1 b2 b3 fits (4 * j + k) (omega arith) (omega arith) (omega arith) (omega arith) in
-    record {
-      here = rw (
-        four-0 s (4 * i) b0 b1 b2 b3 fits,
-        four-1 s (4 * i) b0 b1 b2 b3 fits,
-        four-2 s (4 * i) b0 b1 b2 b3 fits,
-        four-3 s (4 * i) b0 b1 b2 b3 fits,
-      ) (omega arith);
-      there = λ j n. rw (
-        four-other s (4 * i) b0 b1 b2 b3 fits (4 * j) (omega arith) (omega arith) (omega arith) (omega arith),
-        other j 1 n (omega arith),
-        other j 2 n (omega arith),
-        other j 3 n (omega arith),
-      );
-      len = four-length s (4 * i) b0 b1 b2 b3 fits;
-    }
+store_word s i v fits below = record {
+  here = omega (
+    arith,
+    at (4 * i) 0 (omega arith) (omega arith),
+    at (4 * i + 1) 1 (omega arith) refl,
+    at (4 * i + 2) 2 (omega arith) refl,
+    at (4 * i + 3) 3 (omega arith) refl,
+  );
+  there = λ j n. rw (
+    other j (4 * j) n (omega arith) (omega arith),
+    other j (4 * j + 1) n (omega arith) (omega arith),
+    other j (4 * j + 2) n (omega arith) (omega arith),
+    other j (4 * j + 3) n (omega arith) (omega arith),
+  );
+  len = over-length s (4 * i) bs fits;
+}
+  where
+    bs : List ℕ
+    bs = to_le_bytes w32 v
+
+    at : (k r : ℕ) → r < 4 → k ≡ 4 * i + r → get_or (over s (4 * i) bs) k 0 ≡ get_or bs r 0
+    at k r h e = rw e (over-in s (4 * i) bs fits r h)
+
+    other : (j k : ℕ) → (j ≡ i → ⊥) → 4 * j ≤ k → k < 4 * j + 4 → get_or (over s (4 * i) bs) k 0 ≡ get_or s k 0
+    other j k n h l = elim (cases_lt j i) [
+      | inl b ↦ over-before s (4 * i) bs fits k (omega arith)
+      | inr b ↦
+          let q : 4 * i + 4 + (k - (4 * i + 4)) ≡ k = omega arith in
+          rw (← q) (over-behind s (4 * i) bs fits (k - (4 * i + 4)))
+    ]

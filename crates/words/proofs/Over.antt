@@ -3,6 +3,7 @@
 --     over-before, over-in, over-behind    the byte at a place
 --     over-over                            bytes laid behind those just laid are one row of bytes
 --     over-set, over-ahead, over-push      a byte stored alone, just before those laid, just behind them
+--     over_four                            four bytes stored one behind the other
 -- Assumes nothing.
 use mathlib.Core.List.{List, [], ◌∷◌, ◌++◌, append_assoc}
 use mathlib.Core.Path.{◌≡◌, refl, sym, ap, ◌∙◌}
@@ -93,3 +94,11 @@ over-push s at bs next b laid e l =
     let h : next < length (over s at bs) = rw (over-length s at bs (omega arith)) l in
     ap (λ (u : List ℕ). set u next b) laid ∙ over-set (over s at bs) next b h
     ∙ over-over s at bs (omega arith) next (b ∷ []) e
+
+pub over_four : (s : List ℕ) (at a b c d : ℕ) → at + 4 ≤ length s
+    → set (set (set (set s at a) (at + 1) b) (at + 2) c) (at + 3) d ≡ over s at (a ∷ b ∷ c ∷ d ∷ [])
+over_four s at a b c d fits =
+    let one = over-set s at a (omega arith) in
+    let two = over-push s at (a ∷ []) (at + 1) b one refl (omega arith) in
+    let three = over-push s at (a ∷ b ∷ []) (at + 2) c two refl (omega arith) in
+    over-push s at (a ∷ b ∷ c ∷ []) (at + 3) d three refl (omega arith)

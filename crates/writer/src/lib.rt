@@ -6,46 +6,49 @@ ghost use Rattle.record.specs.Refusals.{granted, first_of, told_by};
 ghost use Rattle.layout.specs.Layout.{bits_of, bytes_of, header_of, total_of};
 ghost use Rattle.layout.specs.Promises.{written_told, write_tests};
 ghost use Rattle.words.specs.Words.{over};
-ghost use Rattle.writer.specs.Inner.{grid_tests, Few, GridPut, put_of};
+ghost use Rattle.sound.specs.Inner.{index_of};
+ghost use Rattle.writer.specs.Inner.{grid_tests, Few, GridPut};
 
-use layout::{Written, bits, put_word};
-use record::{Cell, Checked, Refusal};
+use layout::{bits, put_word};
+use record::{Cell, Refusal};
 
 // The tests of the grid: 1, 2, 3.
-fn check_grid(rows: u32, cells: usize) -> Checked
+// Each call has its own list of tests, in its clause: the lines are that list, in the paper's order.
+#[tactic(auto, unfolding(record::specs::Refusals::first_of, layout::specs::Promises::write_tests))]
+fn check_grid(rows: u32, cells: usize) -> Result<(), Refusal>
     ensures { result ≡ first_of (grid_tests rows cells) }
 {
-    let uneven = record::uneven(cells, words::index(rows));
-    let checked = record::then_test(Checked::Good, record::bad_rows(rows), Refusal::Rows);
-    let checked = record::then_test(checked, uneven, Refusal::Length);
-    record::then_test(checked, Cell::MAX_CELLS < cells, Refusal::Cells)
+    record::refuse_if(record::bad_rows(rows), Refusal::Rows)?;
+    record::refuse_if(record::uneven(cells, words::index(rows)), Refusal::Length)?;
+    record::refuse_if(Cell::MAX_CELLS < cells, Refusal::Cells)
 }
 
 // The answer of `write`. What it tells of a number fits 32 bits: by then the cells are few, and the sound records are
 // no more than cells.
-fn plan(rows: u32, cells: usize, n: usize, unsound: usize, room: usize) -> Written
+fn plan(
+    rows: u32,
+    cells: usize,
+    n: usize,
+    unsound: Option<usize>,
+    room: usize,
+) -> Result<u32, Refusal>
     requires { Few cells n unsound }
     ensures { written_told result
-        ≡ told_by (write_tests rows cells n unsound room) (granted (total_of cells n ∷ [])) }
+        ≡ told_by (write_tests rows cells n (index_of unsound n) room) (granted (total_of cells n ∷ [])) }
 {
-    let checked = check_grid(rows, cells);
-    if let Checked::Bad(refusal) = checked {
-        return Written::Refused(refusal);
-    }
-    if unsound < n {
-        return Written::Refused(Refusal::Unsound {
-            index: words::narrow(unsound),
+    check_grid(rows, cells)?;
+    if let Some(index) = unsound {
+        return Err(Refusal::Unsound {
+            index: words::narrow(index),
         });
     }
     let total = 24 + 4 * cells + 16 * n;
-    if room < total {
-        return Written::Refused(Refusal::Room {
-            needed: words::narrow(total),
-        });
-    }
-    Written::Bytes(words::narrow(total))
+    let needed = words::narrow(total);
+    record::refuse_if(room < total, Refusal::Room { needed })?;
+    Ok(needed)
 }
 
+// One by one, as document 01 lists them: an array of six and a loop would be longer.
 fn put_header(room: &mut [u8], rows: u32, cells: usize, n: usize)
     requires { (total_of cells n ≤ length room.old) × ((total_of cells n < 4294967296) × (0 < rows)) }
     ensures { room.new ≡ over room.old 0 (bytes_of (header_of rows cells n)) }
@@ -65,33 +68,24 @@ fn put_heights(room: &mut [u8], heights: &[i32])
     requires { 24 + 4 * length heights.now ≤ length room.old }
     ensures { room.new ≡ over room.old 24 (bytes_of (map bits_of heights.now)) }
 {
-    let mut i: usize = 0;
-    while i < heights.len() {
-        put_word(room, 6 + i, bits(heights[i]));
-        i += 1;
+    for (i, height) in heights.iter().enumerate() {
+        put_word(room, 6 + i, bits(*height));
     }
 }
 
-// The number of records that the answer says are to be put.
-pub fn records_to_put(answer: Written, n: usize) -> usize
-    ensures { result ≡ put_of answer n }
-{
-    match answer {
-        Written::Bytes(_) => n,
-        Written::Refused(_) => 0,
-    }
-}
-
-// Decides the answer of `write` and, unless it is a refusal, puts header and heights.
-pub fn put_grid(rows: u32, heights: &[i32], n: usize, unsound: usize, room: &mut [u8]) -> Written
+// Decides the answer of `write` for so many records and, unless it is a refusal, puts header and heights.
+pub fn put_grid(
+    rows: u32,
+    heights: &[i32],
+    n: usize,
+    unsound: Option<usize>,
+    room: &mut [u8],
+) -> Result<u32, Refusal>
     requires { Few (length heights.now) n unsound }
-    ensures { GridPut rows heights.now n unsound room.old room.new result }
+    ensures { GridPut rows heights.now n (index_of unsound n) room.old room.new result }
 {
-    let answer = plan(rows, heights.len(), n, unsound, room.len());
-    if let Written::Refused(_) = answer {
-        return answer;
-    }
+    let total = plan(rows, heights.len(), n, unsound, room.len())?;
     put_header(room, rows, heights.len(), n);
     put_heights(room, heights);
-    answer
+    Ok(total)
 }

@@ -1,44 +1,40 @@
 -- `same_cells` meets its contract. At a reached cell the row has to go on with it; any other is passed. Assumes
 -- nothing.
-use Rattle.std.proofs.Common.{◌≡◌, ◌<◌, true, false, arith}
-use Rattle.flood.specs.Flood.{reached_in}
-use Rattle.flood.proofs.Reached.{reached-decides}
-use Rattle.relief.proofs.Tests.{passes, declines, refuted}
-use Rattle.audit.proofs.IslandRows.{matching-start, matching-skip, matching-take, matching-short, matching-other}
+use Rattle.std.proofs.Common.{◌≡◌, sym, ◌∙◌, ap, arith, ℕ, ◌∷◌}
+use Rattle.std.proofs.lemmas.Bool.{not-true, not-false}
+use Rattle.relief.specs.Inner.{row_below}
+use Rattle.relief.proofs.Tests.{refuted}
+use Rattle.audit.proofs.IslandRows.{row-skip, row-take, row-next, next-is, next-not, row-ended}
 use Rattle.audit.proofs.same_cells.Goals as goal
-use Rattle.audit.proofs.same_cells.Goals.{After-index, then-index-n+else-island-i+else-index-c, else-index-n}
-
--- what the test says of the cell
-hit : (c : After-index) → c.index.result < c.args.n → reached_in c.args.work.now c.args.n c.loop-c.c ≡ true
-hit c l = passes (reached-decides c.args.work.now c.args.n c.loop-c.c) (omega (arith, c.index.ensures, c.get.ensures))
-
-miss : (c : After-index) → (c.index.result < c.args.n → ⊥) → reached_in c.args.work.now c.args.n c.loop-c.c ≡ false
-miss c out =
-    declines (reached-decides c.args.work.now c.args.n c.loop-c.c)
-    (λ l. out (omega (arith, c.index.ensures, c.get.ensures)))
+use Rattle.audit.proofs.same_cells.Goals.{else-is_reached-via-then-is_reached+else-ne}
+use Rattle.audit.proofs.same_cells.Goals.{else-is_reached-via-else-is_reached}
 
 pub loop-c-init : goal.loop-c-init
-loop-c-init c = matching-start (reached_in c.args.work.now c.args.n) c.args.n c.args.island.now
-
-pub returns-then-island-i : goal.returns-then-island-i
-returns-then-island-i c =
-    refuted (matching-short c.loop-c.invariant c.loop-c-test.true
-    (hit (goal.at.returns-then-island-i c).After-index c.if-index-n.true) c.if-island-i.true)
-
-pub returns-then-index-c : goal.returns-then-index-c
-returns-then-index-c c =
-    refuted (matching-other c.loop-c.invariant c.loop-c-test.true
-    (hit (goal.at.returns-then-index-c c).After-index c.if-index-n.true)
-    (λ e. omega (arith, c.if-index-c.true, c.index-then-index-n.ensures)))
+unfolding row_below
+loop-c-init c = sym c.iter-rest.ensures.rest
 
 pub loop-c-preserved : goal.loop-c-preserved
 loop-c-preserved c =
-    let at = (goal.at.loop-c-preserved c).After-index in
-    elim c.if-index-n.branch [
-      | then-index-n+else-island-i+else-index-c w ↦
-          rw w.i-is (matching-take c.loop-c.invariant c.loop-c-test.true (hit at w.if-index-n.true)
-          w.if-island-i.false (omega (arith, w.index-then-index-n.ensures, w.if-index-c.false)))
-      | else-index-n w ↦
-          rw w.i-is (matching-skip c.loop-c.invariant c.loop-c-test.true
-          (miss at (λ l. omega (arith, w.if-index-n.false))))
+    let told = sym c.is_reached.ensures in
+    elim c.else-is_reached.branch [
+      | else-is_reached-via-then-is_reached+else-ne w ↦
+          rw w.rest-is (row-take _ _ _ c.loop-c.invariant (told ∙ w.if-is_reached.true)
+          (rw (← w.narrow.ensures) (next-is _ _ _ _ w.next.ensures.steps
+          (not-false _ (sym w.ne.ensures ∙ w.if-ne.false)))))
+      | else-is_reached-via-else-is_reached w ↦
+          rw w.rest-is (row-skip _ _ _ c.loop-c.invariant (told ∙ w.if-is_reached.false))
     ]
+
+pub returns-then-ne : goal.returns-then-ne
+returns-then-ne c =
+    refuted (λ e.
+    let (left, q) = row-next _ _ _ c.loop-c.invariant c.loop-c-test.true
+    (sym c.is_reached.ensures ∙ c.if-is_reached.true) e in
+    next-not _ _ _ _ c.next.ensures.steps (not-true _ (sym c.ne.ensures ∙ c.if-ne.true))
+    (q ∙ ap (λ (d : ℕ). d ∷ left) (sym c.narrow.ensures)))
+
+pub returns : goal.returns
+returns c =
+    let e : c.loop-c.c ≡ c.args.n = omega (arith, c.loop-c-test.false, c.loop-c.auto.c-end) in
+    row-ended _ c.args.n _ _ c.next-2.result c.is_none.result (rw e at c.loop-c.invariant) c.next-2.ensures.steps
+    c.is_none.ensures

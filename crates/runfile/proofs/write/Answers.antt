@@ -1,35 +1,38 @@
--- `write` meets its contract: what `put_grid` leaves takes the records, and then the room holds the file, or what it
--- held before. Assumes nothing.
-use Rattle.std.proofs.Common.{◌∙◌, ap, ℕ, length}
-use Rattle.sound.proofs.Scans.{first-few}
-use Rattle.writer.specs.Inner.{laid}
-use Rattle.writer.proofs.Room.{grid-puttable, grid-written}
+-- What `put_grid` leaves takes the records, and then the room holds the file.
+use Rattle.std.proofs.Common.{ℕ, ◌∙◌, ◌+◌, ◌*◌, ◌≡◌, ap, sym, subst, arith, length}
+use Rattle.words.specs.Words.{over}
+use Rattle.layout.specs.Layout.{bytes_of, all_fields_of}
+use Rattle.sound.specs.Inner.{index_of}
+use Rattle.writer.specs.Inner.{Few}
+use Rattle.writer.proofs.WriteAnswer.{found-few, found-first}
+use Rattle.writer.proofs.Room.{grid-long, grid-written}
 use Rattle.runfile.proofs.write.Goals as goal
 
-pub put_grid-answer-requires : goal.put_grid-answer-requires
-put_grid-answer-requires c =
-    let first = c.first_unsound-unsound.ensures in
-    record { within = first.within; few = first-few first }
+pub put_grid-requires : goal.put_grid-requires
+put_grid-requires g c =
+    let few = found-few c.args.heights.now (g.R.Records.records c.args.records) c.first_unsound-unsound.result
+    c.first_unsound-unsound.ensures in
+    subst (λ (n : ℕ). Few (length c.args.heights.now) n c.first_unsound-unsound.result) (sym c.count.ensures) few
 
-pub put_records-requires : goal.put_records-requires
-put_records-requires c =
-    rw c.records_to_put-count.ensures
-    (grid-puttable c.args.rows c.args.heights.now c.args.records.now c.first_unsound-unsound.result c.args.room.now
-    c.put_grid-answer.new.room c.put_grid-answer.result c.put_grid-answer.ensures c.put_grid-answer.auto.room)
+pub lay_records-requires : goal.lay_records-requires
+lay_records-requires g c =
+    let put = rw c.count.ensures at c.in_ok-total.ensures in
+    let long = grid-long _ _ (g.R.Records.records c.args.records) _ _ _ put in
+    omega (arith, long, c.put_grid.auto.room)
 
 pub returns : goal.returns
-returns c =
-    let heights = c.args.heights.now in
-    let records = c.args.records.now in
-    let k = c.first_unsound-unsound.result in
-    let left = c.put_grid-answer.new.room in
-    let answer = c.put_grid-answer.result in
-    let laid-is = ap (λ (n : ℕ). laid left (length heights) records n) c.records_to_put-count.ensures in
+returns g c =
+    let hs = c.args.heights.now in
+    let ps = g.R.Records.records c.args.records in
+    let u = c.first_unsound-unsound.result in
+    let put = rw c.count.ensures at c.in_ok-total.ensures in
+    let place : 4 * (6 + length hs) ≡ 24 + 4 * length hs = omega arith in
     record {
-      unsound = k;
-      first = c.first_unsound-unsound.ensures;
-      answered = c.put_grid-answer.ensures.answered;
+      unsound = index_of u (length ps);
+      first = found-first hs ps u c.first_unsound-unsound.ensures;
+      answered = put.answered;
       room =
-          grid-written c.args.rows heights records k c.args.room.now left answer c.put_records.new.room
-          c.put_grid-answer.ensures (c.put_records.ensures ∙ laid-is);
+          grid-written c.args.rows hs ps _ _ _ put
+          (c.lay_records.ensures
+          ∙ ap (λ (k : ℕ). over c.put_grid.new.room k (bytes_of (all_fields_of ps))) place);
     }

@@ -1,0 +1,81 @@
+// Lists in fixed memory.
+ghost use Rattle.std.specs.Prelude.{◌≡◌, ◌<◌, ◌≤◌, List, [], ◌∷◌, ◌++◌, length, take};
+
+use std::fmt;
+use std::marker::Model;
+
+// A list of at most N items: those before `count`.
+#[derive(Drop)]
+pub struct Few<T, const N: usize> {
+    items: [T; N],
+    count: usize,
+}
+
+impl<T, const N: usize> Model for Few<T, N> {
+    ghost Value = { List T };
+
+    ghost view = { λ few. take few.count few.items };
+
+    ghost invariant = { λ few. few.count ≤ N };
+}
+
+impl<T: Copy + Default, const N: usize> Few<T, N> {
+    // The list of no item.
+    pub fn new() -> Self
+        ensures { result ≡ [] }
+    {
+        Few {
+            items: std::array::from_fn(|_| T::default()),
+            count: 0,
+        }
+    }
+
+    // Puts an item behind the others. Where there is no room for it the list stays as it is.
+    pub fn push(&mut self, item: T)
+        ensures room { length self.old < N → self.new ≡ self.old ++ item ∷ [] }
+        ensures full { N ≤ length self.old → self.new ≡ self.old }
+    {
+        if self.count < N {
+            self.items[self.count] = item;
+            self.count += 1;
+        }
+    }
+
+    // The items.
+    pub fn as_slice(&self) -> &[T]
+        ensures { result.now ≡ self.now }
+    {
+        &self.items[..self.count]
+    }
+
+    // The items, to be put into another order.
+    pub fn as_mut_slice(&mut self) -> &mut [T]
+        ensures { result.now ≡ self.old }
+    {
+        let count = self.count;
+        let items = &mut self.items;
+        let all = &mut items[..];
+        &mut all[..count]
+    }
+}
+
+// The first of the items, as many as there is room for.
+impl<T: Copy + Default, const N: usize> From<&[T]> for Few<T, N> {
+    fn from(items: &[T]) -> Self {
+        let mut few = Few::new();
+        for item in items {
+            few.push(*item);
+        }
+        few
+    }
+}
+
+// The bytes of a text, as many as there is room for.
+impl<const N: usize> fmt::Write for Few<u8, N> {
+    fn write_str(&mut self, text: &str) -> fmt::Result {
+        for byte in text.as_bytes() {
+            self.push(*byte);
+        }
+        Ok(())
+    }
+}
