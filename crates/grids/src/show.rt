@@ -52,10 +52,13 @@ pub fn show_column(
 
 // Writes the records and ends the line; `none` stands for no record. Where the listers differ there is no list.
 fn end_line(rt: &impl Print, records: Option<Records>, none: &str) -> io::Result<()> {
-    match records {
-        None => println!(rt; ": the listers differ"),
-        Some(records) if records.as_slice().is_empty() => println!(rt; ": {none}"),
-        Some(records) => println!(rt; ": {}", Lines(&records)),
+    let Some(records) = records else {
+        return println!(rt; ": the listers differ");
+    };
+    if records.as_slice().is_empty() {
+        println!(rt; ": {none}")
+    } else {
+        println!(rt; ": {}", Lines(&records))
     }
 }
 

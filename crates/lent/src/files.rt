@@ -24,7 +24,7 @@ pub struct Held {
 }
 
 // What writing tells, with the number of bytes, and the room after it.
-#[derive(Drop)]
+#[derive(Clone, Copy)]
 pub struct Filed {
     pub told: Told<usize>,
     pub file: [u8; BYTES],

@@ -9,7 +9,7 @@ use second::Records;
 use second_refusals::Grown;
 
 // The run record after a call, and what the call tells.
-#[derive(Drop)]
+#[derive(Clone, Copy)]
 pub struct Stepped {
     pub run: Run,
     pub told: Told<Records>,

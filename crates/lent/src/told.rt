@@ -3,7 +3,7 @@ use record::Refusal;
 use second::Few;
 
 // What a call answers, and whether all that it does not fill is as it was.
-#[derive(Drop)]
+#[derive(Clone, Copy, Drop)]
 pub struct Told<T> {
     pub answer: Result<T, Refusal>,
     pub kept: bool,

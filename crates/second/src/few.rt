@@ -1,28 +1,35 @@
 // Lists in fixed memory.
-ghost use Rattle.std.specs.Prelude.{◌≡◌, ◌<◌, ◌≤◌, List, [], ◌∷◌, ◌++◌, length, take};
+ghost use Rattle.std.specs.Prelude.{◌≡◌, ◌<◌, ◌≤◌, ⊤, [], ◌∷◌, ◌++◌, length};
 
+use std::alloc::AllocError;
 use std::fmt;
-use std::marker::Model;
 
 // A list of at most N items: those before `count`.
 #[derive(Drop)]
 pub struct Few<T, const N: usize> {
     items: [T; N],
     count: usize,
+    ghost fits: { count ≤ N },
 }
 
-impl<T, const N: usize> Model for Few<T, N> {
-    ghost Value = { List T };
+impl<T: Copy, const N: usize> Copy for Few<T, N> {}
 
-    ghost view = { λ few. take few.count few.items };
+impl<T: Copy, const N: usize> Clone for Few<T, N> {
+    ghost is_clone = { λ few copy. copy ≡ few };
 
-    ghost invariant = { λ few. few.count ≤ N };
+    ghost is_infallible = { λ _. ⊤ };
+
+    fn clone(&self) -> Result<Self, AllocError> {
+        Ok(*self)
+    }
 }
 
 impl<T: Copy + Default, const N: usize> Few<T, N> {
+    ghost use Rattle.second.specs.Listed.{listed};
+
     // The list of no item.
     pub fn new() -> Self
-        ensures { result ≡ [] }
+        ensures { listed result ≡ [] }
     {
         Few {
             items: std::array::from_fn(|_| T::default()),
@@ -32,8 +39,8 @@ impl<T: Copy + Default, const N: usize> Few<T, N> {
 
     // Puts an item behind the others. Where there is no room for it the list stays as it is.
     pub fn push(&mut self, item: T)
-        ensures room { length self.old < N → self.new ≡ self.old ++ item ∷ [] }
-        ensures full { N ≤ length self.old → self.new ≡ self.old }
+        ensures room { length (listed self.old) < N → listed self.new ≡ listed self.old ++ item ∷ [] }
+        ensures full { N ≤ length (listed self.old) → self.new ≡ self.old }
     {
         if self.count < N {
             self.items[self.count] = item;
@@ -43,14 +50,14 @@ impl<T: Copy + Default, const N: usize> Few<T, N> {
 
     // The items.
     pub fn as_slice(&self) -> &[T]
-        ensures { result.now ≡ self.now }
+        ensures { result.now ≡ listed self.now }
     {
         &self.items[..self.count]
     }
 
     // The items, to be put into another order.
     pub fn as_mut_slice(&mut self) -> &mut [T]
-        ensures { result.now ≡ self.old }
+        ensures { result.now ≡ listed self.old }
     {
         let count = self.count;
         let items = &mut self.items;

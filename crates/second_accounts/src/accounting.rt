@@ -1,5 +1,6 @@
 // The account of a peak's key height, and the judge of any account: request (iii) of document 02.
 ghost use Rattle.std.specs.Prelude.{◌≡◌};
+ghost use Rattle.second.specs.Listed.{listed};
 
 use crate::ways;
 use second::{Few, Grid, MAX, sets};
@@ -17,7 +18,7 @@ pub struct Account<'a> {
 }
 
 // An account that this lister gives, with its rows.
-#[derive(Drop)]
+#[derive(Clone, Copy)]
 pub struct Given {
     pub key: Option<i32>,
     pub path: Row,
@@ -39,8 +40,8 @@ impl Given {
     // What it says.
     pub fn account(&self) -> Account<'_>
         ensures key { result.key ≡ self.now.key }
-        ensures path { result.path.now ≡ self.now.path }
-        ensures island { result.island.now ≡ self.now.island }
+        ensures path { result.path.now ≡ listed self.now.path }
+        ensures island { result.island.now ≡ listed self.now.island }
     {
         Account {
             key: self.key,
