@@ -101,12 +101,12 @@ pub fn show_program(rt: &impl Print, rows: usize, heights: &[i32]) -> io::Result
         println!(rt; "rows {rows} columns {columns} peaks {}", records.len())?;
     }
     for record in records {
-        println!(rt; "{} {}", Line(*record), OrDash(prominence(*record)))?;
+        println!(rt; "{} {}", Line(*record), OrDash(prominence_of(*record)))?;
     }
     Ok(())
 }
 
-// "Prominence: height less key height", in a width that holds the difference of any two heights.
-fn prominence(record: Record) -> Option<i64> {
-    record.key.map(|key| record.height as i64 - key as i64)
+// The prominence of a record; none without a key height.
+fn prominence_of(record: Record) -> Option<i64> {
+    record.key.map(|key| second::prominence(record.height, key))
 }

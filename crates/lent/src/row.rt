@@ -1,7 +1,7 @@
 // A row of records to lend: every entry holds a mark before a call, and those that the call does not fill hold it
 // afterwards.
 use record::Peak;
-use second::{Record, Records};
+use second::{BLANK, MISSING_PASS, Record, Records};
 
 // A row of as many records as the second lister takes.
 pub type Row = [Peak; 64];
@@ -19,14 +19,15 @@ pub fn marked() -> Row {
     [MARK; 64]
 }
 
-// A record in the second lister's form.
+// A record in the second lister's form. What is missing is known by the second lister's marks, so that a first lister
+// with other marks differs.
 // No `From`: neither type is this crate's.
 fn record_of(peak: &Peak) -> Record {
     Record {
         cell: peak.cell as usize,
         height: peak.height,
-        key: (peak.key != Peak::MISSING_KEY).then_some(peak.key),
-        pass: (peak.pass != Peak::MISSING_PASS).then_some(peak.pass as usize),
+        key: (peak.key != BLANK).then_some(peak.key),
+        pass: (peak.pass != MISSING_PASS).then_some(peak.pass as usize),
     }
 }
 

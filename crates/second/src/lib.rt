@@ -11,7 +11,7 @@ pub mod sets; // sets.rt: sets of cells
 
 pub use few::Few;
 pub use grid::Grid;
-pub use listing::{Record, Records};
+pub use listing::{Record, Records, prominence};
 
 // The greatest number of cells of a grid that this lister takes.
 pub const MAX: usize = 64;
@@ -19,8 +19,13 @@ pub const MAX: usize = 64;
 // The bytes of a work area for so many cells, four numbers of 32 bits for each.
 pub const WORK: usize = 1024;
 
-// The mark of a blank cell in a row of heights, which is lent to the first lister as well.
+// The mark of a blank cell in a row of heights, which is lent to the first lister as well, and of a missing key height
+// in the records that it hands out.
 pub const BLANK: i32 = i32::MIN;
+
+// The mark of a missing pass cell in those records. Both marks are stated here by themselves, so that a first lister
+// with others differs.
+pub const MISSING_PASS: u32 = 4294967295;
 
 // The list of a whole grid; a grid that is not supported has no record.
 // Rows and heights come apart, as the calls of the first lister take them; a `Grid` is made of them at once.
