@@ -22,7 +22,7 @@ pub struct Asked {
 
 // The outline of a whole grid, where both listers give it.
 pub fn answer(rows: usize, heights: &[i32], threshold: u32, levels: u32) -> Option<Text> {
-    let text = second_outlines::outline(rows, heights, threshold, levels).ok()?;
+    let text = second_outlines::outline(rows, heights, threshold, levels);
     let asked = Asked {
         run: ended(narrow(rows), heights.len(), threshold),
         levels,

@@ -14,9 +14,7 @@ pub fn agree(drawn: &Drawn) -> bool {
 // Whether they agree where the run has taken the whole grid, with refused calls.
 fn calls_agree(drawn: &Drawn) -> bool {
     let heights = drawn.heights();
-    let Ok(text) = outline(drawn.rows, heights, drawn.threshold, drawn.levels) else {
-        return false;
-    };
+    let text = outline(drawn.rows, heights, drawn.threshold, drawn.levels);
     let asked = Asked {
         run: ended(narrow(drawn.rows), heights.len(), drawn.threshold),
         levels: drawn.levels,
@@ -35,9 +33,7 @@ fn calls_agree(drawn: &Drawn) -> bool {
 fn part_agrees(drawn: &Drawn) -> bool {
     let (rows, heights) = (narrow(drawn.rows), drawn.heights());
     let (before, _) = last_apart(rows, heights);
-    let Ok(text) = outline(drawn.rows, before, drawn.threshold, drawn.levels) else {
-        return false;
-    };
+    let text = outline(drawn.rows, before, drawn.threshold, drawn.levels);
     let asked = Asked {
         run: ended(rows, before.len(), drawn.threshold),
         levels: drawn.levels,
