@@ -15,24 +15,42 @@ pub struct Grid<'a> {
 impl<'a> Grid<'a> {
     // The grid, where this lister takes one of so many rows and cells.
     pub fn supported(rows: usize, heights: &'a [i32]) -> Option<Grid<'a>> {
-        let cells = heights.len();
-        (rows != 0 && cells <= MAX && cells.is_multiple_of(rows)).then(|| Grid::new(rows, heights))
+        is_supported(rows, heights.len()).then(|| Grid::new(rows, heights))
     }
 
     // The grid of so many rows.
     pub fn new(rows: usize, heights: &'a [i32]) -> Grid<'a> {
+        Grid::bare(rows, heights).with_peaks()
+    }
+
+    // The grid without its peaks: enough to ask whether one cell is a peak's, and much less work.
+    pub(crate) fn bare(rows: usize, heights: &'a [i32]) -> Grid<'a> {
         let cells = heights.len();
-        let near = std::array::from_fn(|cell| sets::such(cells, |other| touch(rows, cell, other)));
-        let bare = Grid {
+        Grid {
             rows,
             heights,
-            near,
+            near: std::array::from_fn(|cell| sets::such(cells, |other| touch(rows, cell, other))),
             peaks: 0,
-        };
-        Grid {
-            peaks: sets::such(cells, |cell| bare.is_peak(cell)),
-            ..bare
         }
+    }
+
+    // The same grid with its peaks worked out.
+    fn with_peaks(self) -> Grid<'a> {
+        Grid {
+            peaks: sets::such(self.heights.len(), |cell| self.is_peak(cell)),
+            ..self
+        }
+    }
+
+    // The grid without its last column; none where it has no column. Which cells touch is not worked out again: those
+    // that are gone have no height, so that no path goes over them.
+    pub(crate) fn without_last_column(&self) -> Option<Grid<'a>> {
+        let before = self.heights.len().checked_sub(self.rows)?;
+        let shorter = Grid {
+            heights: &self.heights[..before],
+            ..*self
+        };
+        Some(shorter.with_peaks())
     }
 }
 
@@ -67,15 +85,19 @@ impl Grid<'_> {
 
     // The cells of that height; no cell is in the set for none.
     pub fn level(&self, height: Option<i32>) -> u64 {
-        self.with_height(|own| Some(own) == height)
+        match height {
+            Some(height) => self.with_height(|own| own == height),
+            None => 0,
+        }
     }
 
-    // The cells that touch some cell of the set.
+    // The cells that touch some cell of the set. Behind the last cell of the set none is looked at.
     pub fn around(&self, set: u64) -> u64 {
         let touching = self
             .near
             .iter()
             .enumerate()
+            .take_while(|(cell, _)| set & !sets::earlier(*cell) != 0)
             .filter(|(cell, _)| sets::has(set, *cell));
         touching.fold(0, |all, (_, near)| all | *near)
     }
@@ -93,6 +115,11 @@ impl Grid<'_> {
         }
         set
     }
+}
+
+// Whether this lister takes a grid of so many rows and cells.
+pub(crate) fn is_supported(rows: usize, cells: usize) -> bool {
+    rows != 0 && cells <= MAX && cells.is_multiple_of(rows)
 }
 
 // "Two cells touch if they differ by at most one in row and at most one in column, and are not the same cell."

@@ -58,7 +58,9 @@ fn listed_of<F: Fn(&Grid) -> u64>(rows: usize, heights: &[i32], threshold: u32, 
     }
 }
 
-// Whether the cell is a peak's.
+// Whether the cell is a peak's. That is asked of its flat alone, and not of all cells.
 pub fn is_peak(rows: usize, heights: &[i32], cell: usize) -> bool {
-    Grid::supported(rows, heights).is_some_and(|grid| sets::has(grid.peaks, cell))
+    grid::is_supported(rows, heights.len())
+        && cell < heights.len()
+        && Grid::bare(rows, heights).is_peak(cell)
 }

@@ -23,7 +23,7 @@ pub fn earlier(end: usize) -> u64 {
 
 // The earliest cell of the set.
 pub fn earliest(set: u64) -> Option<usize> {
-    (0..MAX).find(|cell| has(set, *cell))
+    (set != 0).then_some(set.trailing_zeros() as usize)
 }
 
 // The set of those cells with a smaller number than `end` that are as asked.

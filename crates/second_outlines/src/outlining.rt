@@ -27,12 +27,17 @@ impl<'a> Outline<'a> {
 }
 
 impl Outline<'_> {
-    // The listed peaks under one, or the tops. "Passes under one peak go by falling height, then pass cell, then
-    // child's cell"; "Tops stand in reading order".
-    fn children(&self, upper: Option<usize>) -> Few<usize, MAX> {
-        let mut cells = sets::in_order(sets::such(MAX, |cell| {
+    // The listed peaks under one, or the tops.
+    fn under(&self, upper: Option<usize>) -> u64 {
+        sets::such(MAX, |cell| {
             sets::has(self.listed, cell) && self.links.at(cell).map(|link| link.parent) == upper
-        }));
+        })
+    }
+
+    // The same in order. "Passes under one peak go by falling height, then pass cell, then child's cell"; "Tops stand
+    // in reading order".
+    fn children(&self, upper: Option<usize>) -> Few<usize, MAX> {
+        let mut cells = sets::in_order(self.under(upper));
         cells
             .as_mut_slice()
             .sort_unstable_by_key(|cell| (self.links.at(*cell), *cell));
@@ -67,11 +72,11 @@ impl Outline<'_> {
     }
 
     // "on a peak's line the number of its direct children left out as too deep": those of a peak at the last level.
-    fn left_out(&self, peak: usize, level: u32) -> usize {
+    fn left_out(&self, peak: usize, level: u32) -> u32 {
         if level < self.levels {
             0
         } else {
-            self.children(Some(peak)).as_slice().len()
+            self.under(Some(peak)).count_ones()
         }
     }
 }

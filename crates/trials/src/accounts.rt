@@ -24,9 +24,9 @@ pub fn agree(drawn: &Drawn) -> bool {
 
 // Whether the check says that to some account whose path is changed.
 pub fn changed_gets(verdict: Verdict, drawn: &Drawn) -> bool {
-    (0..CELLS).any(|cell| {
+    (0..CELLS).filter(|cell| is_peak(drawn, *cell)).any(|cell| {
         let given = second_accounts::account(drawn.rows, drawn.heights(), cell);
-        is_peak(drawn, cell) && Case::of(drawn, cell, given.account()).path_gets(verdict)
+        Case::of(drawn, cell, given.account()).path_gets(verdict)
     })
 }
 
