@@ -58,8 +58,17 @@ pub fn check(rows: u32, cells: usize, work: usize) -> Result<(), Refusal>
     record::refuse_if(record::short_work(work, cells), Refusal::Work)
 }
 
-// Puts the levels of the first `n` heights into the first quarter.
-pub fn load<H: Heights>(work: &mut [u8], heights: H, n: usize)
+// Puts the levels of the first `n` heights of a lent row into the first quarter.
+// It stands beside `load_from`: a parameter that is a slice also takes an array or a row that is lent to be changed.
+pub fn load(work: &mut [u8], heights: &[i32], n: usize)
+    requires { Loading work.old heights.now n }
+    ensures { Loaded work.old work.new heights.now n }
+{
+    load_from(work, heights, n);
+}
+
+// Puts the levels of the first `n` heights into the first quarter, wherever they stand.
+pub fn load_from<H: Heights>(work: &mut [u8], heights: H, n: usize)
     requires { Loading work.old (H.heights heights) n }
     ensures { Loaded work.old work.new (H.heights heights) n }
 {

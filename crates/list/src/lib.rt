@@ -2,30 +2,10 @@
 // are those of document 01 and of the C entry, and no struct.
 #![tactic(auto)]
 
-ghost use Rattle.std.specs.Prelude.{length};
 ghost use Rattle.list.specs.Promises.{Lists};
-ghost use Rattle.list.specs.Inner.{Listable, ListMade, ListsFlat};
+ghost use Rattle.list.specs.Inner.{ListsFlat};
 
-use heights::Heights;
 use record::{Peak, Refusal};
-
-// The list of a grid that passed the tests before the work, wherever its heights stand: the records are left in the
-// work area.
-pub fn made<H: Heights>(
-    rows: u32,
-    heights: H,
-    threshold: u32,
-    work: &mut [u8],
-    room: usize,
-) -> Result<u32, Refusal>
-    requires { Listable rows (length (H.heights heights)) (length work.old) }
-    ensures { ListMade rows (H.heights heights) threshold work.old room work.new result }
-{
-    let n = heights.count();
-    heights::load(work, heights, n);
-    let count = survey::whole(work, n, words::index(rows), threshold);
-    table::room_answer(count, room)
-}
 
 // The whole-grid call without the table, of which only the room counts: the records are left in the work area.
 pub fn flat(
@@ -38,7 +18,7 @@ pub fn flat(
     ensures { ListsFlat rows heights.now threshold work.old room work.new result }
 {
     heights::check(rows, heights.len(), work.len())?;
-    made(rows, heights, threshold, work, room)
+    survey::made(rows, heights, threshold, work, room)
 }
 
 // The whole-grid call: lists the peaks of a grid of `rows` rows into a lent row of records.

@@ -20,7 +20,7 @@ pub extern "C" fn meter_write(rows: u32, heights: &[i32], records: &[u8], room: 
         at: 0,
         count: records.len() / 16,
     };
-    layout::answer_number(runfile::write(rows, heights, row, room))
+    layout::answer_number(runfile::write_from(rows, heights, row, room))
 }
 
 // Reads a run file: `runfile::read`, with `lay_records` in place of `take`. The answer is the record count.

@@ -7,8 +7,16 @@ use layout::{ReadBack, RecordsIn};
 use record::{Peak, Refusal};
 use table::Records;
 
-// Writes the run file of a grid and a row of records into a lent room, and answers the number of its bytes.
-pub fn write<R: Records>(
+// Writes the run file of a grid and a lent row of records into a lent room, and answers the number of its bytes.
+// It stands beside `write_from`: a parameter that is a slice also takes an array or a row that is lent to be changed.
+pub fn write(rows: u32, heights: &[i32], records: &[Peak], room: &mut [u8]) -> Result<u32, Refusal>
+    ensures { Writes rows heights.now records.now room.old room.new result }
+{
+    write_from(rows, heights, records, room)
+}
+
+// Writes the run file of a grid and a row of records, wherever they stand.
+pub fn write_from<R: Records>(
     rows: u32,
     heights: &[i32],
     records: R,

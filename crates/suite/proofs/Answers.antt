@@ -9,7 +9,7 @@ use borrow.Author.Tests.{ltb-false}
 use Rattle.record.specs.Refusals.{first_of}
 use Rattle.record.proofs.Refusals.{rows-known}
 use Rattle.record.proofs.Tests.{first-passed}
-use Rattle.list.specs.Inner.{Listable}
+use Rattle.survey.specs.Lists.{Listable}
 use Rattle.suite.specs.Promises.{suite_tests}
 
 pub bytes-listable : (rows bytes work : ℕ) → first_of (suite_tests rows bytes work) ≡ Ok tt

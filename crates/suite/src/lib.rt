@@ -41,7 +41,7 @@ fn flat(
         at: 0,
         count: heights.len() / 4,
     };
-    list::made(rows, grid, threshold, work, room)
+    survey::made(rows, grid, threshold, work, room)
 }
 
 // Lists a whole grid: heights and records are bytes, the work area has 16 bytes for a cell, and the answer is the

@@ -5,7 +5,7 @@ use Rattle.relief.specs.Plane.{plane_of}
 use Rattle.survey.proofs.ListCalls.{list-refused}
 use Rattle.layout.specs.Layout.{heights_from}
 use Rattle.layout.proofs.Rows.{heights-length}
-use Rattle.list.specs.Inner.{Listable}
+use Rattle.survey.specs.Lists.{Listable}
 use Rattle.suite.specs.Promises.{suite_tests}
 use Rattle.suite.proofs.Answers.{bytes-listable}
 use Rattle.suite.proofs.flat.Goals as goal

@@ -6,7 +6,7 @@ use Rattle.sound.specs.Inner.{index_of}
 use Rattle.writer.specs.Inner.{Few}
 use Rattle.writer.proofs.WriteAnswer.{found-few, found-first}
 use Rattle.writer.proofs.Room.{grid-long, grid-written}
-use Rattle.runfile.proofs.write.Goals as goal
+use Rattle.runfile.proofs.write_from.Goals as goal
 
 pub put_grid-requires : goal.put_grid-requires
 put_grid-requires g c =

@@ -2,10 +2,10 @@
 use Rattle.std.proofs.Common.{refl, arith}
 use Rattle.relief.specs.Plane.{plane_of}
 use Rattle.survey.proofs.ListCalls.{list-made}
-use Rattle.list.proofs.made.Goals as goal
+use Rattle.survey.proofs.made.Goals as goal
 
-pub load-requires : goal.load-requires
-load-requires g c =
+pub load_from-requires : goal.load_from-requires
+load_from-requires g c =
     let r = c.requires in
     record {
       area = record {
@@ -21,7 +21,7 @@ whole-count-requires g c =
     record {
       area = record {
         few = omega (arith, r.fits, c.count-n.ensures);
-        room = omega (arith, r.space, c.count-n.ensures, c.load.ensures.len);
+        room = omega (arith, r.space, c.count-n.ensures, c.load_from.ensures.len);
       };
       rows_some = omega (arith, r.some, c.index.ensures);
       rows_few = omega (arith, r.few, c.index.ensures);
@@ -34,7 +34,7 @@ room_answer-requires g c =
 pub returns : goal.returns
 returns g c tests good =
     let hs = g.H.Heights.heights c.args.heights in
-    let loaded = rw c.count-n.ensures at c.load.ensures in
+    let loaded = rw c.count-n.ensures at c.load_from.ensures in
     let counted = rw (c.count-n.ensures, c.index.ensures) at c.whole-count.ensures in
     list-made tests (plane_of c.args.rows) c.args.threshold c.args.room hs good refl loaded counted
     c.room_answer.ensures
