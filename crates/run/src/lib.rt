@@ -32,7 +32,10 @@ fn copy(grid: &mut [i32], at: usize, column: &[i32])
     ensures { grid.new
         ≡ paste grid.old at column.now (length column.now) }
 {
-    grid[at..at + column.len()].copy_from_slice(column);
+    // A loop: `copy_from_slice` would be a call of C's `memmove`, which an archive for C would need from outside.
+    for i in 0..column.len() {
+        grid[at + i] = column[i];
+    }
 }
 
 // Column once the tests before the work have passed.
@@ -45,7 +48,7 @@ fn column_good(run: Run, column: &[i32], grid: &mut [i32], work: &mut [u8], room
     let held = running::held_cells(run);
     let n = held + rows;
     copy(grid, held, column);
-    heights::load(work, &*grid, n);
+    heights::load(work, grid, n);
     let count = survey::closing(work, n, held, rows, run.threshold);
     let handed = table::room_answer(count, room);
     Step {
