@@ -1,7 +1,7 @@
 -- Laws of numbers in decimal digits: the one file that unfolds `decimal_of` and `height_of`.
 --     decimal-small, decimal-more    a digit alone, and the last digit of more than one
 --     length_more                    a digit more
---     decimal-one                    a number below ten has one
+--     decimal-one, decimal-many      how many digits a number between two powers of ten has
 --     decimal-most                   how many digits a number below a power of ten has at most
 --     sign_high, sign_low            the digits of a height by its level, and its sign
 -- How much `digits_of` is given to stop by does not matter if it is more than the number (`digits-enough`).
@@ -49,6 +49,14 @@ decimal-one n h = ap length (decimal-small n h)
 pub length_more : (n : ℕ) → 10 ≤ n → length (decimal_of n) ≡ suc (length (decimal_of (n / 10)))
 length_more n h =
     ap length (decimal-more n h) ∙ length-append (decimal_of (n / 10)) ((48 + n % 10) ∷ []) ∙ omega arith
+
+pub decimal-many : (k : ℕ) {n : ℕ} → 10 ^ suc k ≤ n → n < 10 ^ suc (suc k) → length (decimal_of n) ≡ suc (suc k)
+decimal-many zero {n} l m = length_more n l ∙ ap suc (decimal-one (n / 10) (omega arith))
+decimal-many (suc k) {n} l m =
+    let p = pow-suc 10 k in
+    let q = pow-suc 10 (suc k) in
+    let r = pow-suc 10 (suc (suc k)) in
+    length_more n (omega arith) ∙ ap suc (decimal-many k {n = n / 10} (omega arith) (omega arith))
 
 pub decimal-most : (k n : ℕ) → n < 10 ^ suc k → length (decimal_of n) ≤ suc k
 decimal-most zero n h = omega (arith, decimal-one n h)

@@ -1,93 +1,102 @@
--- Digits put before the last of eleven bytes, from the last to the first.
---     Digits all ds start rest   all bytes are the digits of the rest and those put, which begin at the start
---     digits-begin, begins-one, begins-two, digits-pair, digits-two, digits-one    its laws
+-- Digits put into bytes, from the last to the first: the invariant of the loop of `put_digits`, and its laws.
+--     Digits s at v t place rest     the digits of v are those of the rest, which belong at `at`, and some behind them;
+--                                    t is s with those behind them at their place
+--     digits-place, digits-fits, digits-length    a digit is left; those laid fit; the length stays
+--     digits-start, digits-pair, digits-one, digits-two    the loop begins, goes on, ends with a digit or with two
 -- Assumes nothing.
-use mathlib.Core.Path.{◌≡◌, refl, sym, ap, ◌∙◌}
-use mathlib.Core.List.{List, [], ◌∷◌, ◌++◌, append_assoc}
-use Prim.Native.Nat.{ℕ, ◌+◌, ◌-◌, ◌/◌, ◌%◌, ◌≤◌, ◌<◌}
+use mathlib.Core.Path.{◌≡◌, refl, sym, ap, ◌∙◌, subst, subst₂}
+use mathlib.Core.List.{List, [], ◌∷◌, ◌++◌, append-nil}
+use Prim.Native.Nat.{ℕ, suc, ◌+◌, ◌-◌, ◌/◌, ◌%◌, ◌≤◌, ◌<◌}
 use native.Mathlib.Decide.{dec_lt}
 use native.Mathlib.Omega.{arith}
-use lib.ListN.{length, drop, set, length-append}
-use Rattle.std.proofs.lemmas.List.{drop-set}
+use lib.ListN.{length, set, length-append}
+use lib.Seq.{append_snoc}
 use Rattle.relief.specs.Outline.{decimal_of}
-use Rattle.lines.proofs.Decimal.{decimal-small, decimal-more, decimal-one, decimal-most, length_more}
+use Rattle.words.specs.Words.{over}
+use Rattle.words.proofs.Over.{over_none, over-length, over-ahead}
+use Rattle.lines.proofs.Decimal.{decimal-small, decimal-one, decimal-more, length_more}
 
-pub record Digits (all ds : List ℕ) (start rest : ℕ) : Type 0 where
-  pub whole : all ≡ decimal_of rest ++ drop start ds
-  pub room : length (decimal_of rest) ≤ start
-  pub inside : start ≤ 10
-  pub long : length ds ≡ 11
+pub record Digits (s : List ℕ) (at v : ℕ) (t : List ℕ) (place rest : ℕ) : Type 0 where
+  pub fits : at + length (decimal_of v) ≤ length s
+  pub behind : List ℕ
+  pub split : decimal_of v ≡ decimal_of rest ++ behind
+  pub near : place ≡ at + length (decimal_of rest)
+  pub laid : t ≡ over s place behind
 
-pub digits-begin : (v : ℕ) (ds : List ℕ) → v < 4294967296 → length ds ≡ 11
-    → Digits (decimal_of v ++ drop 10 ds) ds 10 v
-digits-begin v ds l e = record {
-  whole = refl;
-  room = decimal-most 9 v (omega arith);
-  inside = omega arith;
-  long = e;
+pub digits-start : (s : List ℕ) (at v : ℕ) {count : ℕ} → count ≡ length (decimal_of v) → at + count ≤ length s
+    → Digits s at v s (at + count) v
+digits-start s at v {count} e l = record {
+  fits = omega arith;
+  behind = [];
+  split = sym (append-nil (decimal_of v));
+  near = ap (λ (k : ℕ). at + k) e;
+  laid = over_none s (at + count);
 }
 
-length-some : (n : ℕ) → 0 < length (decimal_of n)
-length-some n = elim (dec_lt n 10) [
-  | yes l ↦ omega (arith, decimal-one n l)
-  | no l ↦ omega (arith, length_more n (omega arith))
-]
+module _ {s : List ℕ} {at v : ℕ} {t : List ℕ} {place rest : ℕ} (d : Digits s at v t place rest) where
+  pub digits-place : at < place
+  digits-place = elim (dec_lt rest 10) [
+    | yes l ↦ omega (arith, d.near, decimal-one rest l)
+    | no l ↦ omega (arith, d.near, length_more rest (omega arith))
+  ]
 
--- the last two digits, and two digits alone
-pub decimal-pair : (n : ℕ) → 100 ≤ n
-    → decimal_of n ≡ decimal_of (n / 100) ++ (48 + n % 100 / 10) ∷ (48 + n % 100 % 10) ∷ []
-decimal-pair n l =
-    let a : n / 10 / 10 ≡ n / 100 = omega arith in
-    let b : n / 10 % 10 ≡ n % 100 / 10 = omega arith in
-    let c : n % 10 ≡ n % 100 % 10 = omega arith in
-    decimal-more n (omega arith)
-    ∙ ap (λ (k : List ℕ). k ++ ((48 + n % 10) ∷ [])) (decimal-more (n / 10) (omega arith))
-    ∙ append_assoc (decimal_of (n / 10 / 10)) ((48 + n / 10 % 10) ∷ []) ((48 + n % 10) ∷ [])
-    ∙ rw (a, b, c) refl
+  pub digits-fits : place + length d.behind ≤ length s
+  digits-fits =
+      omega (arith, d.fits, d.near, ap length d.split, length-append (decimal_of rest) d.behind)
 
-pub decimal-two : (n : ℕ) → 10 ≤ n → n < 100 → decimal_of n ≡ (48 + n / 10) ∷ (48 + n % 10) ∷ []
-decimal-two n l m =
-    decimal-more n l ∙ ap (λ (k : List ℕ). k ++ ((48 + n % 10) ∷ [])) (decimal-small (n / 10) (omega arith))
+  pub digits-length : length t ≡ length s
+  digits-length = ap length d.laid ∙ over-length s place d.behind digits-fits
 
-module _ {all ds : List ℕ} {start rest : ℕ} (d : Digits all ds start rest) where
-  pub begins-one : 1 ≤ start
-  begins-one = omega (arith, d.room, length-some rest)
+  -- a byte stored before those laid
+  ahead : (before b : ℕ) → place ≡ suc before → set t before b ≡ over s before (b ∷ d.behind)
+  ahead before b e =
+      ap (λ (u : List ℕ). set u before b) d.laid ∙ over-ahead s before place b d.behind e digits-fits
 
-  pub begins-two : 10 ≤ rest → 2 ≤ start
-  begins-two l = omega (arith, d.room, length_more rest l, length-some (rest / 10))
-
-  pub digits-pair : 100 ≤ rest → {es : List ℕ} → length es ≡ 11
-      → drop (start - 2) es ≡ (48 + rest % 100 / 10) ∷ (48 + rest % 100 % 10) ∷ drop (start - 2 + 2) ds
-      → Digits all es (start - 2) (rest / 100)
-  digits-pair l {es} n e =
-      let p = decimal-pair rest l in
-      let r = d.room in
-      let m = ap length p ∙ length-append (decimal_of (rest / 100)) _ in
-      let f : start - 2 + 2 ≡ start = omega arith in
+  digits_step : 10 ≤ rest → {b : ℕ} → b ≡ 48 + rest % 10
+      → Digits s at v (set t (place - 1) b) (place - 1) (rest / 10)
+  digits_step l {b} e =
+      let last = length_more rest l in
+      let p = digits-place in
       record {
-        whole =
-            d.whole ∙ ap (λ (k : List ℕ). k ++ drop start ds) p
-            ∙ append_assoc (decimal_of (rest / 100)) _ (drop start ds)
-            ∙ ap (λ (k : List ℕ). decimal_of (rest / 100) ++ k) (sym (rw f at e));
-        room = omega arith;
-        inside = omega (arith, d.inside);
-        long = n;
+        fits = d.fits;
+        behind = b ∷ d.behind;
+        split =
+            d.split ∙ ap (λ (k : List ℕ). k ++ d.behind) (decimal-more rest l)
+            ∙ append_snoc (decimal_of (rest / 10)) (48 + rest % 10) d.behind
+            ∙ ap (λ (x : ℕ). decimal_of (rest / 10) ++ x ∷ d.behind) (sym e);
+        near = omega (arith, d.near);
+        laid = ahead (place - 1) b (omega arith);
       }
 
-  pub digits-two : 10 ≤ rest → rest < 100 → (es : List ℕ)
-      → drop (start - 2) es ≡ (48 + rest / 10) ∷ (48 + rest % 10) ∷ drop (start - 2 + 2) ds
-      → drop (start - 2) es ≡ all
-  digits-two l m es e =
-      let two = begins-two l in
-      let f : start - 2 + 2 ≡ start = omega arith in
-      rw f at e ∙ sym (d.whole ∙ ap (λ (k : List ℕ). k ++ drop start ds) (decimal-two rest l m))
-
-  pub digits-one : rest < 10 → {b : ℕ} → b ≡ 48 + rest
-      → drop (start - 1) (set ds (start - 1) b) ≡ all
+  pub digits-one : rest < 10 → {b : ℕ} → b ≡ 48 + rest → set t at b ≡ over s at (decimal_of v)
   digits-one l {b} e =
-      let one = begins-one in
-      let i = d.inside in
-      let n = d.long in
-      let f : start - 1 + 1 ≡ start = omega arith in
-      drop-set ds (start - 1) b (omega arith)
-      ∙ rw (f, e) (sym (d.whole ∙ ap (λ (k : List ℕ). k ++ drop start ds) (decimal-small rest l)))
+      let last : place ≡ suc at = omega (arith, d.near, decimal-one rest l) in
+      let whole : b ∷ d.behind ≡ decimal_of v =
+      ap (λ (x : ℕ). x ∷ d.behind) e
+      ∙ ap (λ (k : List ℕ). k ++ d.behind) (sym (decimal-small rest l))
+      ∙ sym d.split in
+      ahead at b last ∙ ap (over s at) whole
+
+-- two digits, the last of them first
+module _ {s : List ℕ} {at v : ℕ} {t : List ℕ} {place rest : ℕ} (d : Digits s at v t place rest) where
+  pub place-two : 10 ≤ rest → at + 1 < place
+  place-two l = omega (arith, d.near, length_more rest l, digits-place (digits_step d l refl))
+
+  pub digits-pair : 100 ≤ rest → {a b : ℕ} → b ≡ 48 + rest % 100 % 10 → a ≡ 48 + rest % 100 / 10
+      → Digits s at v (set (set t (place - 2 + 1) b) (place - 2) a) (place - 2) (rest / 100)
+  digits-pair l {a} {b} eb ea =
+      let p = place-two (omega arith) in
+      let e : place - 1 ≡ place - 2 + 1 = omega arith in
+      let f : place - 1 - 1 ≡ place - 2 = omega arith in
+      let g : rest / 10 / 10 ≡ rest / 100 = omega arith in
+      let one = digits_step d (omega arith) {b = b} (omega arith) in
+      let two = digits_step one (omega arith) {b = a} (omega arith) in
+      subst (λ (i : ℕ). Digits s at v (set (set t i b) (place - 2) a) (place - 2) (rest / 100)) e
+      (subst₂ (λ (j r : ℕ). Digits s at v (set (set t (place - 1) b) j a) j r) f g two)
+
+  pub digits-two : 10 ≤ rest → rest < 100 → {a b : ℕ} → b ≡ 48 + rest % 10 → a ≡ 48 + rest / 10
+      → set (set t (at + 1) b) at a ≡ over s at (decimal_of v)
+  digits-two l m {a} {b} eb ea =
+      let one = digits_step d l {b = b} eb in
+      let e : place - 1 ≡ at + 1 = omega (arith, one.near, decimal-one (rest / 10) (omega arith)) in
+      subst (λ (i : ℕ). set (set t i b) at a ≡ over s at (decimal_of v)) e (digits-one one (omega arith) ea)

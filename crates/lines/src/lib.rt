@@ -1,6 +1,7 @@
 // The lines of an outline, counted or written into lent bytes.
 #![tactic(auto)]
 
+mod numerals; // numerals.rt: the digits of a number
 mod pieces; // pieces.rt: a number, a height, what both lines begin with
 mod sinks; // sinks.rt: where the lines go
 

@@ -1,6 +1,10 @@
 // Where the lines of an outline go: their bytes are counted, or written into lent bytes.
 ghost use Rattle.std.specs.Prelude.{◌≡◌, ℕ, ◌+◌, ◌≤◌, List, length};
+ghost use Rattle.relief.specs.Outline.{decimal_of};
+ghost use Rattle.words.specs.Words.{over};
 ghost use Rattle.lines.specs.Sinks.{IsSink, Laid, counter_laws, page_laws};
+
+use crate::numerals::{digits, put_digits};
 
 // A place for bytes, one behind the other. Not std's `fmt::Write`: no clause of that says when a write succeeds, and an
 // outline that has room is written whole (`Outlines`).
@@ -14,6 +18,12 @@ pub trait Sink {
     fn put(&mut self, bytes: &[u8])
         requires { fits self.old (length bytes.now) }
         ensures { put_gives self.old bytes.now self.new };
+
+    // Puts a number in decimal. Each sink has its own way: to count digits no digit is worked out, and written ones go
+    // straight to their place.
+    fn put_number(&mut self, v: u32)
+        requires { fits self.old (length (decimal_of v)) }
+        ensures { put_gives self.old (decimal_of v) self.new };
 
     ghost laws: { IsSink fits put_gives };
 }
@@ -33,7 +43,22 @@ impl Sink for Counter {
         self.bytes += bytes.len();
     }
 
+    fn put_number(&mut self, v: u32) {
+        self.bytes += digits(v);
+    }
+
     ghost laws = { counter_laws };
+}
+
+// Lays bytes over those of a text from a place on.
+// A loop: `copy_from_slice` would be a call of C's `memcpy`, which an archive for C would need from outside.
+fn lay(text: &mut [u8], at: usize, bytes: &[u8])
+    requires { at + length bytes.now ≤ length text.old }
+    ensures { text.new ≡ over text.old at bytes.now }
+{
+    for i in 0..bytes.len() {
+        text[at + i] = bytes[i];
+    }
 }
 
 // Writes the bytes into the text from a place on.
@@ -49,9 +74,14 @@ impl Sink for Page<'_> {
     ghost put_gives = { Laid };
 
     fn put(&mut self, bytes: &[u8]) {
-        let end = self.at + bytes.len();
-        self.text[self.at..end].copy_from_slice(bytes);
-        self.at = end;
+        lay(self.text, self.at, bytes);
+        self.at += bytes.len();
+    }
+
+    fn put_number(&mut self, v: u32) {
+        let count = digits(v);
+        put_digits(self.text, self.at, count, v);
+        self.at += count;
     }
 
     ghost laws = { page_laws };
