@@ -1,1 +1,1 @@
-pub mod Listed
+pub mod Listed  -- the items of a list in fixed memory

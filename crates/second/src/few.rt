@@ -14,6 +14,7 @@ pub struct Few<T, const N: usize> {
 
 impl<T: Copy, const N: usize> Copy for Few<T, N> {}
 
+// By hand: a struct with a ghost field derives no `Clone`.
 impl<T: Copy, const N: usize> Clone for Few<T, N> {
     ghost is_clone = { λ few copy. copy ≡ few };
 

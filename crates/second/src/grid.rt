@@ -91,15 +91,19 @@ impl Grid<'_> {
         }
     }
 
-    // The cells that touch some cell of the set. Behind the last cell of the set none is looked at.
+    // The cells that touch some cell of the set. Behind the last cell of the set none is looked at. A `for`: by an
+    // iterator over `near` the program `trials` takes a quarter more instructions.
     pub fn around(&self, set: u64) -> u64 {
-        let touching = self
-            .near
-            .iter()
-            .enumerate()
-            .take_while(|(cell, _)| set & !sets::earlier(*cell) != 0)
-            .filter(|(cell, _)| sets::has(set, *cell));
-        touching.fold(0, |all, (_, near)| all | *near)
+        let mut all = 0;
+        for cell in 0..MAX {
+            if set >> cell == 0 {
+                return all;
+            }
+            if sets::has(set, cell) {
+                all |= self.near[cell];
+            }
+        }
+        all
     }
 
     // The cells that paths reach which start in `from` and stay in `allowed`. Each turn but the last adds a cell,
