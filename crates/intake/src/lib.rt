@@ -19,6 +19,9 @@ pub const MOST_CELLS: usize = 4096;
 // Both programs read into arrays that have room for the most: they allocate nothing.
 pub const INPUT: usize = 65537;
 
+// The bytes of the longest line of a refusal, whose number has two digits: what a caller lends who puts one into bytes.
+pub const LINE: usize = 11;
+
 // Reads until the file is full or the input ends, and answers how many bytes then stand in its front.
 // A loop, since std's `read_exact` refuses an input that ends before, and does not tell how long it was.
 pub fn read_full<R: Read>(input: &mut R, file: &mut [u8]) -> io::Result<usize>
