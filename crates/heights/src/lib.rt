@@ -67,7 +67,7 @@ pub fn load(work: &mut [u8], heights: &[i32], n: usize)
     load_from(work, heights, n);
 }
 
-// Puts the levels of the first `n` heights into the first quarter, wherever they stand.
+// Puts the levels of the first `n` heights into the first quarter, wherever the heights stand.
 pub fn load_from<H: Heights>(work: &mut [u8], heights: H, n: usize)
     requires { Loading work.old (H.heights heights) n }
     ensures { Loaded work.old work.new (H.heights heights) n }

@@ -19,7 +19,7 @@ pub const MOST_CELLS: usize = 4096;
 // Both programs read into arrays that have room for the most: they allocate nothing.
 pub const INPUT: usize = 65537;
 
-// The bytes of the longest line of a refusal, whose number has two digits: what a caller lends who puts one into bytes.
+// The length of the longest line of a refusal, with a number of two digits and its end: so many bytes hold any.
 pub const LINE: usize = 11;
 
 // Reads until the file is full or the input ends, and answers how many bytes then stand in its front.

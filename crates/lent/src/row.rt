@@ -20,7 +20,7 @@ pub fn marked() -> Row {
 }
 
 // A record in the second lister's form. What is missing is known by the second lister's marks, so that a first lister
-// with other marks differs.
+// with other marks is seen to differ.
 // No `From`: neither type is this crate's.
 fn record_of(peak: &Peak) -> Record {
     Record {

@@ -44,7 +44,7 @@ pub fn digits(v: u32) -> usize
     10
 }
 
-// Puts the digits of a number that has so many, from the last to the first.
+// Puts the digits of a number, `count` of them, from the last to the first.
 // By hand: std prints a number into a `fmt::Write`, whose clauses let any write fail, or into a `String` on the heap.
 pub fn put_digits(text: &mut [u8], at: usize, count: usize, v: u32)
     requires { (count ≡ length (decimal_of v)) × (at + count ≤ length text.old) }

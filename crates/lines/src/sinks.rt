@@ -19,7 +19,7 @@ pub trait Sink {
         requires { fits self.old (length bytes.now) }
         ensures { put_gives self.old bytes.now self.new };
 
-    // Puts a number in decimal. Each sink has its own way: to count digits no digit is worked out, and written ones go
+    // Puts a number in decimal. Each sink has its own way: the counter works out no digit, and the page puts them
     // straight to their place.
     fn put_number(&mut self, v: u32)
         requires { fits self.old (length (decimal_of v)) }
@@ -51,7 +51,7 @@ impl Sink for Counter {
 }
 
 // Lays bytes over those of a text from a place on.
-// A loop: `copy_from_slice` would be a call of C's `memcpy`, which an archive for C would need from outside.
+// A loop, since `copy_from_slice` calls C's `memcpy`, which an archive for C would then need from outside.
 fn lay(text: &mut [u8], at: usize, bytes: &[u8])
     requires { at + length bytes.now ≤ length text.old }
     ensures { text.new ≡ over text.old at bytes.now }

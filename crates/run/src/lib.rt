@@ -32,7 +32,7 @@ fn copy(grid: &mut [i32], at: usize, column: &[i32])
     ensures { grid.new
         ≡ paste grid.old at column.now (length column.now) }
 {
-    // A loop: `copy_from_slice` would be a call of C's `memmove`, which an archive for C would need from outside.
+    // A loop, since `copy_from_slice` calls C's `memmove`, which an archive for C would then need from outside.
     for i in 0..column.len() {
         grid[at + i] = column[i];
     }

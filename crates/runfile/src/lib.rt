@@ -15,7 +15,7 @@ pub fn write(rows: u32, heights: &[i32], records: &[Peak], room: &mut [u8]) -> R
     write_from(rows, heights, records, room)
 }
 
-// Writes the run file of a grid and a row of records, wherever they stand.
+// Writes the run file of a grid and a row of records, wherever the records stand.
 pub fn write_from<R: Records>(
     rows: u32,
     heights: &[i32],

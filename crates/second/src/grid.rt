@@ -91,7 +91,7 @@ impl Grid<'_> {
         }
     }
 
-    // The cells that touch some cell of the set. Behind the last cell of the set none is looked at. A `for`: by an
+    // The cells that touch some cell of the set. No cell behind the last of the set is looked at. A `for`: by an
     // iterator over `near` the program `trials` takes a quarter more instructions.
     pub fn around(&self, set: u64) -> u64 {
         let mut all = 0;

@@ -23,8 +23,8 @@ pub const WORK: usize = 1024;
 // in the records that it hands out.
 pub const BLANK: i32 = i32::MIN;
 
-// The mark of a missing pass cell in those records. Both marks are stated here by themselves, so that a first lister
-// with others differs.
+// The mark of a missing pass cell in those records. Both marks are stated here on their own, so that a first lister
+// with other marks is seen to differ.
 pub const MISSING_PASS: u32 = 4294967295;
 
 // The list of a whole grid; a grid that is not supported has no record.
@@ -58,7 +58,7 @@ fn listed_of<F: Fn(&Grid) -> u64>(rows: usize, heights: &[i32], threshold: u32, 
     }
 }
 
-// Whether the cell is a peak's. That is asked of its flat alone, and not of all cells.
+// Whether the cell is a peak's. Only its flat is looked at, not all cells.
 pub fn is_peak(rows: usize, heights: &[i32], cell: usize) -> bool {
     grid::is_supported(rows, heights.len())
         && cell < heights.len()
