@@ -4,6 +4,8 @@
 mod numerals; // numerals.rt: the digits of a number
 mod pieces; // pieces.rt: a number, a height, what both lines begin with
 mod sinks; // sinks.rt: where the lines go
+#[cfg(test)]
+mod tests; // tests.rt: a sink that has no way of its own to put a number
 
 ghost use Rattle.std.specs.Prelude.{length};
 ghost use Rattle.relief.specs.Outline.{peak_line, pass_line};

@@ -3,6 +3,9 @@ ghost use Rattle.std.specs.Prelude.{◌≡◌, ◌+◌, ◌≤◌, ◌<◌, leng
 ghost use Rattle.relief.specs.Outline.{decimal_of};
 ghost use Rattle.words.specs.Words.{over};
 
+// The most digits that a number of 32 bits has.
+pub const DIGITS: usize = 10;
+
 fn digit(v: u32) -> u8
     requires { v < 10 }
     ensures { result ≡ 48 + v }

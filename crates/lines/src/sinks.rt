@@ -4,7 +4,7 @@ ghost use Rattle.relief.specs.Outline.{decimal_of};
 ghost use Rattle.words.specs.Words.{over};
 ghost use Rattle.lines.specs.Sinks.{IsSink, Laid, counter_laws, page_laws};
 
-use crate::numerals::{digits, put_digits};
+use crate::numerals::{DIGITS, digits, put_digits};
 
 // A place for bytes, one behind the other. Not std's `fmt::Write`: no clause of that says when a write succeeds, and an
 // outline that has room is written whole (`Outlines`).
@@ -19,11 +19,17 @@ pub trait Sink {
         requires { fits self.old (length bytes.now) }
         ensures { put_gives self.old bytes.now self.new };
 
-    // Puts a number in decimal. Each sink has its own way: the counter works out no digit, and the page puts them
-    // straight to their place.
+    // Puts a number in decimal: its digits like any bytes, where a sink has no way of its own. Both below have one: the
+    // counter works out no digit, and the page puts them straight to their place.
     fn put_number(&mut self, v: u32)
         requires { fits self.old (length (decimal_of v)) }
-        ensures { put_gives self.old (decimal_of v) self.new };
+        ensures { put_gives self.old (decimal_of v) self.new }
+    {
+        let mut field = [0; DIGITS];
+        let count = digits(v);
+        put_digits(&mut field, 0, count, v);
+        self.put(&field[..count]);
+    }
 
     ghost laws: { IsSink fits put_gives };
 }
